@@ -79,7 +79,7 @@ fn answer_of_stream(desk: &mut Desk, call: &str, rest: &str) -> Result<Option<St
     }))
 }
 
-/// The status of these numbers and this truth value.
+/// The status with these numbers and this truth value.
 fn status(given: &str) -> Result<Status> {
     let (written, given) = first(given);
     let (flushed, given) = first(given);
@@ -94,7 +94,7 @@ fn status(given: &str) -> Result<Status> {
     })
 }
 
-/// The keepalive of these numbers and this truth value.
+/// The keepalive with these numbers and this truth value.
 fn keepalive(given: &str) -> Result<Keepalive> {
     let (position, given) = first(given);
     let (clock, wants_reply) = first(given);

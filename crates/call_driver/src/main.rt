@@ -111,7 +111,7 @@ fn answer_of(desk: &mut Desk, name: &str, rest: &str) -> Result<Option<String>> 
     answer_of_stream(desk, topic, call, rest)
 }
 
-/// The answer to the line. A line that can't be read has an answer too, and does not end the run.
+/// The answer to the line. A line that cannot be read has an answer too, and does not end the run.
 fn answer_of_line(desk: &mut Desk, line: &str) -> Result<String> {
     let alloc = desk.alloc;
     let (name, rest) = line.split_once(" ").unwrap_or((line, ""));

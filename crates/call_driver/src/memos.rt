@@ -46,7 +46,7 @@ fn seen(desk: &mut Desk, given: &str) -> Result<String> {
     Ok(format!(in desk.alloc; "{number}")?)
 }
 
-/// What the atoms say of the row of this number.
+/// What the atoms say of the row with this number.
 fn said_of(desk: &Desk, number: &str) -> Result<Said> {
     Ok(
         *desk

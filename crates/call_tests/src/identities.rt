@@ -1,4 +1,4 @@
-//! Replica identities and keys that no catalog has: of an index or a column that doesn't exist.
+//! Replica identities and keys that no catalog has: of an index or a column that does not exist.
 
 use crate::checks::{holds, same};
 use filter_tree::{
@@ -36,7 +36,7 @@ fn columns(alloc: Global) -> Result<Items<Column>, AllocError> {
 }
 
 /// A table of those columns, with this key and this replica identity. The indexes are of `a` and `c`, of `c` and `b`,
-/// and of `a` and a column that doesn't exist.
+/// and of `a` and a column that does not exist.
 fn table(alloc: Global, key: &[usize], identity: Identity) -> Result<Table, AllocError> {
     let indexes = vec![in alloc;
         index(alloc, &[0, 2])?,

@@ -121,7 +121,7 @@ are_ascending (entry ∷ entries) = is_before entry.table entries && are_ascendi
 abbrev pub are_whole : List (EntryOf Expr) → Bool
 are_whole entries = list_all (λ entry. not (is_some entry.filter)) entries
 
--- the table of this number and schema has an entry, or no table of the schema has one
+-- the table with this number and schema has an entry, or no table of the schema has one
 abbrev pub is_listed_whole : List Table → List (EntryOf Expr) → ℕ → List ℕ → Bool
 is_listed_whole tables entries number schema = not (has_schema tables entries schema) || has_entry number entries
 

@@ -32,7 +32,7 @@ text_by text (Some a) = text a
 abbrev pub name_text : List ℕ → List ℕ
 name_text name = in_quotes 34 name
 
--- the name of the column of this number
+-- the name of the column with this number
 abbrev pub column_sql : List Column → ℕ → List ℕ
 column_sql columns number = text_by (λ column. name_text column.name) (slice_get columns number)
 

@@ -3,8 +3,8 @@
 ghost use Rattle.std.specs.Prelude.{◌≡◌};
 ghost use Rattle.catalog_text.specs.FilterText as spec;
 
-/// The kinds of parts of a filter, from the one that binds least tightly to the one that binds most tightly. Definitions
-/// and laws about the text of a filter name them.
+/// The kinds of parts of a filter, from the one that binds least tightly to the one that binds most tightly.
+/// Definitions and laws about the text of a filter name them.
 ///
 /// PostgreSQL 15, "SQL Syntax", 4.1.6 Operator Precedence.
 #[derive(Clone, Copy)]

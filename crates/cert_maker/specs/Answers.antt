@@ -53,8 +53,8 @@ abbrev pub owners_of : CatalogOf Expr → ℕ → List Datum → List ℕ
 owners_of catalog number row =
     filter (λ subscriber. passes catalog subscriber number row) (numbers_from 0 catalog.subscriptions)
 
--- the row shows that the table of this number is not sharded well: it fits the table, and the number of subscribers
--- that get it is not one
+-- the row shows that the table with this number is not sharded correctly: it fits the table, and the number of
+-- subscribers that get it is not one
 pub record IsCounter (catalog : CatalogOf Expr) (plan : PlanOf) (number : ℕ) (row : List Datum) (owners : List ℕ) :
     Type 0 where
   pub table : Table
@@ -63,7 +63,7 @@ pub record IsCounter (catalog : CatalogOf Expr) (plan : PlanOf) (number : ℕ) (
   pub passing : plan ≡ plan_of catalog → owners ≡ owners_of catalog number row
   pub not_one : length owners ≢ 1
 
--- what the result for the table of this number means is true
+-- what the result for the table with this number means is true
 pub record IsAnswer (catalog : CatalogOf Expr) (plan : PlanOf) (number : ℕ) (made : Made) : Type 0 where
   pub cert : IfCert made (IsAcceptedCert catalog plan number)
   pub counter : IfCounter made (IsCounter catalog plan number)

@@ -1,5 +1,5 @@
-//! Looks for the reason why a table is sharded well, a certificate that the check accepts, or for a row that shows that
-//! it is not. What is found is tested before it is returned, so nobody has to trust the search.
+//! Searches for a certificate that the check accepts, which shows that a table is sharded correctly, or for a row that
+//! shows that it is not. What is found is tested before it is returned, so nobody has to trust the search.
 #![tactic(auto)]
 
 mod made;

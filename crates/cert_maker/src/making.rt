@@ -105,7 +105,7 @@ fn answer<'b>(
 /// 1,000,000 nodes and at most 64 splits on a path, so that `read_in` reads what `write` gives for it. A row is
 /// returned only if it fits the table and no subscriber gets it, or several do. `Unknown` is returned if neither was
 /// found, and for a table that does not exist. The search visits no further node after `MAX_STEPS` steps, or after this
-/// table's part of the steps that all tables share. `OutOfMemory` may come in place of any result for a table that
+/// table's part of the steps that all tables share. `OutOfMemory` may come instead of any result for a table that
 /// exists.
 pub fn make<'b>(
     alloc: Global,

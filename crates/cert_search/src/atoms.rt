@@ -110,7 +110,7 @@ fn place_of(terms: &[Term], term: Term) -> usize {
     terms.len()
 }
 
-/// The bit of the atom of this number.
+/// The bit of the atom with this number.
 fn bit_of(kind: &AtomKind, number: usize) -> u64 {
     match kind {
         AtomKind::IsNull => 0,

@@ -138,7 +138,7 @@ impl SearchState {
         found
     }
 
-    /// An atom of the share that isn't known, for an outcome that depends on an atom without a bit.
+    /// An atom of the share that is not known, for an outcome that depends on an atom without a bit.
     fn any_of(&self, problem: &Problem<'_>, share: ShareFormula) -> Option<usize> {
         for place in share.start..share.end {
             if let (true, Some(Condition::Value(atom, _))) = (

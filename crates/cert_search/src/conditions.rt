@@ -113,14 +113,14 @@ fn of_atom(list: &mut Vec<Condition>, atom: usize) -> Result<Views, AllocError> 
     })
 }
 
-/// The condition that AND is null: a part is, and the other one isn't false.
+/// The condition that AND is null: a part is, and the other one is not false.
 fn null_of_and(list: &mut Vec<Condition>, left: Views, right: Views) -> Result<usize, AllocError> {
     let by_left = add(list, Condition::Both(left.null, right.not_false))?;
     let by_right = add(list, Condition::Both(left.not_false, right.null))?;
     add(list, Condition::Either(by_left, by_right))
 }
 
-/// The condition that AND isn't null.
+/// The condition that AND is not null.
 fn not_null_of_and(
     list: &mut Vec<Condition>,
     left: Views,

@@ -26,8 +26,8 @@ pub struct ColumnFacts {
     refused: u64,
 }
 
-/// What is known about a term if its column isn't null: whether a number is left for it, and the bits of the atoms that
-/// are true for some number that is left, and for all of them.
+/// What is known about a term if its column is not null: whether a number is left for it, and the bits of the atoms
+/// that are true for some number that is left, and for all of them.
 #[derive(Clone, Copy)]
 pub struct Left {
     pub has_number: bool,
@@ -176,7 +176,7 @@ impl Facts {
         self.left.get(term).copied().unwrap_or(NONE)
     }
 
-    /// Whether the column of this number is null.
+    /// Whether the column with this number is null.
     pub fn nullness(&self, column: usize) -> Nullness {
         self.column(column).nullness
     }

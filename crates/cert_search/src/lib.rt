@@ -1,5 +1,5 @@
-//! Looks for a certificate of a table with its shares, or for a row that shows that it isn't sharded well. It is only
-//! guaranteed that the search ends; `cert_maker` tests what is found.
+//! Looks for a certificate of a table with its shares, or for a row that shows that it is not sharded correctly. It is
+//! only guaranteed that the search ends; `cert_maker` tests what is found.
 #![tactic(auto)]
 
 mod atoms;

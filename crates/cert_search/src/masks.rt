@@ -46,12 +46,12 @@ pub fn mask_at(masks: &[Mask], number: usize) -> Mask {
     masks.get(number).copied().unwrap_or(ANY)
 }
 
-/// The truth value of the atom of this number, if it is settled.
+/// The truth value of the atom with this number, if it is settled.
 pub fn value_at(masks: &[Mask], number: usize) -> Option<Tri> {
     settled(mask_at(masks, number))
 }
 
-/// Puts a value in the place of this number, if there is such a place.
+/// Puts a value in the place with this number, if there is such a place.
 pub fn put<T: Copy>(items: &mut [T], number: usize, item: T) {
     if let Some(place) = items.get_mut(number) {
         *place = item;

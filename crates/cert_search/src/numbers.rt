@@ -104,7 +104,7 @@ fn with_remainder(
     None
 }
 
-/// The greatest common divisor of a number and another number that isn't 0.
+/// The greatest common divisor of a number and another number that is not 0.
 fn common_divisor(one: i64, other: i64) -> i64 {
     let (mut left, mut right) = (one, other);
     for _ in 0..MAX_ROUNDS {

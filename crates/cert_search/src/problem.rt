@@ -253,7 +253,7 @@ impl<'a> Problem<'a> {
         })
     }
 
-    /// The numbers of the atoms of the column of this number.
+    /// The numbers of the atoms of the column with this number.
     pub fn atoms_of(&self, column: usize) -> &[usize] {
         match self.subjects.get(column) {
             None => &[],
@@ -261,7 +261,7 @@ impl<'a> Problem<'a> {
         }
     }
 
-    /// The numbers of the terms of the column of this number.
+    /// The numbers of the terms of the column with this number.
     pub fn terms_of(&self, column: usize) -> &[usize] {
         match self.subjects.get(column) {
             None => &[],
@@ -269,7 +269,7 @@ impl<'a> Problem<'a> {
         }
     }
 
-    /// How many atoms and classes of numbers the column of this number has.
+    /// How many atoms and classes of numbers the column with this number has.
     pub fn breadth_of(&self, column: usize) -> u64 {
         match self.subjects.get(column) {
             None => 0,
@@ -277,7 +277,7 @@ impl<'a> Problem<'a> {
         }
     }
 
-    /// Whether the column of this number is declared NOT NULL.
+    /// Whether the column with this number is declared NOT NULL.
     pub fn is_declared(&self, column: usize) -> bool {
         match self.columns.get(column) {
             None => false,
@@ -295,7 +295,7 @@ impl<'a> Problem<'a> {
         count(self.terms.len())
     }
 
-    /// The atom of this number.
+    /// The atom with this number.
     pub fn atom(&self, number: usize) -> Option<&PlainAtom> {
         self.atoms.get(number)
     }

@@ -214,7 +214,7 @@ fn picked(values: &[Choice], number: u64) -> (Choice, u64) {
     (values.get(place).copied().unwrap_or(None), number / count)
 }
 
-/// The row of this number, among the rows of simple values; `None` if there are fewer rows.
+/// The row with this number, among the rows of simple values; `None` if there are fewer rows.
 fn simple_choices(
     alloc: Global,
     values: &[Vec<Choice>],

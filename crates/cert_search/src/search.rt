@@ -16,7 +16,7 @@ use split_cert::{Cert, MAX_SPLITS};
 use std::alloc::{AllocError, Global};
 
 /// The most steps of a search. A step is a look at a condition of a share's filter, or at an atom, a term, a column or
-/// a class of numbers that the atoms of a term don't distinguish.
+/// a class of numbers that the atoms of a term do not distinguish.
 pub const MAX_STEPS: u64 = 200_000_000;
 
 /// The least cost of a node, in steps.
@@ -215,7 +215,7 @@ impl<'a, 'q> Search<'a, 'q> {
     }
 }
 
-/// A leaf without rows, since the facts don't allow this value for the atom.
+/// A leaf without rows, since the facts do not allow this value for the atom.
 fn impossible(fork: Fork, value: Tri) -> Shape {
     if value == Tri::Null && fork.is_never_null {
         Shape::NeverNull(fork.atom)

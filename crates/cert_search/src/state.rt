@@ -186,7 +186,7 @@ impl SearchState {
         }
     }
 
-    /// The standing of the share of this number.
+    /// The standing of the share with this number.
     pub fn standing_of(&self, share: usize) -> Standing {
         self.standings
             .get(share)
@@ -220,7 +220,7 @@ impl SearchState {
         is_settled(mask_at(&self.known, atom))
     }
 
-    /// Whether the facts allow the atom only one value, which it doesn't have on the path.
+    /// Whether the facts allow the atom only one value, which it does not have on the path.
     pub fn is_forced(&self, atom: usize) -> bool {
         !self.is_known(atom) && is_settled(mask_at(&self.likely, atom))
     }

@@ -98,7 +98,7 @@ impl<'a> Texts<'a> {
         false
     }
 
-    /// The text of this number, if an atom names it.
+    /// The text with this number, if an atom names it.
     pub fn text(&self, number: i64) -> Option<&'a str> {
         let place = usize::try_from(number).ok()?;
         self.list.get(place).copied()

@@ -1,5 +1,5 @@
--- What `publish` answers to each line of its input after the certificates: a line has one step, COMMIT or VIEW, or none.
--- The format is this program's own; what a commit does is that of PostgreSQL 15, 3.4. Transactions.
+-- What `publish` answers to each line of its input after the certificates: a line has one step, COMMIT or VIEW, or
+-- none. The format is this program's own; what a commit does is that of PostgreSQL 15, 3.4. Transactions.
 use Rattle.std.specs.Prelude.{◌≡◌, ◌≢◌, ℕ, Bool, true, false, ◌&&◌, if◌then◌else◌, List, [], ◌∷◌, ◌++◌, All, IsUtf8, Option, Some, None, Ok, codes}
 use Rattle.std.specs.Io.KnownBytes.{Appends, Consumes}
 use Rattle.filter_tree.specs.declared.table.Table.{Table}

@@ -20,7 +20,7 @@ nothing_is_part : (limit : ℕ) → front limit [] ≡ Part
 unfolding front
 nothing_is_part limit = refl
 
--- how many frames are allowed doesn't matter, if there are as many as bytes
+-- how many frames are allowed does not matter, if there are as many as bytes
 enough : (limit a b : ℕ) (bytes : List ℕ) → length bytes ≤ a → length bytes ≤ b
     → cut_some limit a bytes ≡ cut_some limit b bytes
 enough limit zero zero bytes below above = refl

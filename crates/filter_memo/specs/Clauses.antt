@@ -21,7 +21,7 @@ abbrev pub negated_if : Bool → Tri → Tri
 negated_if true tri = not_of tri
 negated_if false tri = tri
 
--- the filter of this number, or its negation
+-- the filter with this number, or its negation
 pub record IsLiteral (clause : Clause) (number : ℕ) (is_negated : Bool) : Type 0 where
   pub says : (said : Said) (values : Values) → IsSplit said values
       → clause_says clause values ≡ negated_if is_negated (said_at said number)

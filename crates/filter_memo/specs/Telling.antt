@@ -23,7 +23,7 @@ abbrev pub filter_or_false : {A : _} → Option (Filter A) → Expr
 filter_or_false None = Const false
 filter_or_false (Some filter) = expr_view filter
 
--- a number without a filter stands for false
+-- a number without a filter counts as false
 abbrev pub part_at : {A : _} → List (Filter A) → ℕ → Expr
 part_at parts number = filter_or_false (slice_get parts number)
 

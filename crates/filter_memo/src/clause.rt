@@ -65,7 +65,7 @@ impl Clause {
     ghost use Rattle.std.specs.Prelude.{◌≡◌, ◌<◌};
     ghost use Rattle.filter_memo.specs.Clauses as spec;
 
-    /// The atom of this number, or its negation.
+    /// The atom with this number, or its negation.
     #[tactic(auto, using(crate::proofs::ClauseLemmas::true_literal, crate::proofs::ClauseLemmas::false_literal))]
     pub fn literal(number: usize, is_negated: bool) -> Clause
         requires { number < 64 }

@@ -25,7 +25,7 @@ fn is_atom(part: &Filter, atom: &Atom) -> bool
     }
 }
 
-/// Whether the atom of this number is this one.
+/// Whether the atom with this number is this one.
 fn is_part(parts: &[Filter], number: usize, atom: &Atom) -> bool
     ensures { IsTrue result → part_at parts.now number ≡ e.Atom (atom_view atom.now) }
 {

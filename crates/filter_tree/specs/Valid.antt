@@ -1,4 +1,4 @@
--- Which rows fit a table, and the first fault of one that doesn't: the columns' types and NOT NULL of "CREATE TABLE",
+-- Which rows fit a table, and the first fault of one that does not: the columns' types and NOT NULL of "CREATE TABLE",
 -- the ranges of "8.1 Numeric Types", texts in UTF-8 of "24.3. Character Set Support", and the longest text that is
 -- accepted.
 use Rattle.std.specs.Prelude.{◌≡◌, ℕ, ◌+◌, ◌≤◌, ℤ, ◌≤ℤ◌, int_le, false, ◌&&◌, List, [], ◌∷◌, length, Contains, if◌then◌else◌, ◌==◌, nat_le, Option, Some, None, Result, Ok, Err, IfSome, slice_get}
@@ -64,7 +64,7 @@ constant_fault column Boolean (Truth truth) = None
 constant_fault column Text (Bytes bytes) = bytes_fault column bytes
 constant_fault column _ _ = Some (WrongType column)
 
--- the fault of the value of the column of this number
+-- the fault of the value of the column with this number
 abbrev pub value_fault : ℕ → Column → Datum → Option RowFault
 value_fault number column Missing = if column.not_null then Some (NullInNotNull number) else None
 value_fault number column (Known constant) = constant_fault number column.kind constant

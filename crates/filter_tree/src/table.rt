@@ -66,7 +66,7 @@ pub struct UniqueIndex {
 }
 
 /// A table's replica identity: what is recorded of an old row. `Default` records the primary key's columns, `Index` the
-/// columns of the table's unique index of this number, counted from 0, `Full` the whole row, `Nothing` nothing.
+/// columns of the table's unique index with this number, counted from 0, `Full` the whole row, `Nothing` nothing.
 ///
 /// PostgreSQL 15, SQL Commands, ALTER TABLE (REPLICA IDENTITY).
 #[derive(Clone, Copy, Debug, PartialEq, Eq)]

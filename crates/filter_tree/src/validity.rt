@@ -9,7 +9,7 @@ use crate::value::{Row, Value};
 use std::alloc::Allocator;
 use thiserror::Error;
 
-/// Why a row doesn't fit a table. Columns are numbered from 0.
+/// Why a row does not fit a table. Columns are numbered from 0.
 #[derive(Clone, Copy, Debug, PartialEq, Eq, Error)]
 pub enum RowFault {
     /// The row has more or fewer values than the table has columns.

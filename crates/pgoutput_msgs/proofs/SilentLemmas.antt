@@ -22,7 +22,7 @@ is_none : (out : Option OutOf) → is_some out ≡ false → None ≡ out
 is_none None none = refl
 is_none (Some out) none = absurd cc
 
--- the subscriber gets nothing of a change that isn't for it
+-- the subscriber gets nothing of a change that is not for it
 pub gets_none : (checked : CheckedOf) (subscriber : ℕ) (change : ChangeOf)
     → is_for checked.plan subscriber change ≡ false → got (setting_in checked) subscriber change ≡ None
 gets_none checked subscriber change none =

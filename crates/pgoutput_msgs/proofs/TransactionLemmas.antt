@@ -92,7 +92,7 @@ module _ (tables : List Table) where
   introduced_by true number = refl
   introduced_by false number = refl
 
-  -- nothing is sent for a table that doesn't exist
+  -- nothing is sent for a table that does not exist
   none_there : (b : Bool) (number : ℕ) → slice_get tables number ≡ None
       → (if b then [] else a_relation number (slice_get tables number)) ≡ []
   none_there true number none = refl

@@ -17,7 +17,7 @@ use Rattle.pgoutput_msgs.specs.declared.message.Msg.TheVariants as m
 
 -- ---- messages
 
--- If these OIDs are known, a change is of tables that are known, and a Relation of one that isn't.
+-- If these OIDs are known, a change is of tables that are known, and a Relation of one that is not.
 abbrev pub IsIntroduced : List ℕ → Msg → Type 0
 IsIntroduced known (m.Begin final_lsn time xid) = Unit {0}
 IsIntroduced known (m.Commit lsn end_lsn time) = Unit {0}

@@ -26,7 +26,7 @@ use Rattle.pgoutput_msgs.specs.declared.tuple.OldTuple.TheVariants as o
 
 -- ---- numbers of tables
 
--- the OID of the table of this number, which is counted from 0
+-- the OID of the table with this number, which is counted from 0
 abbrev pub oid_of : ℕ → ℕ
 oid_of table = 16384 + table
 
@@ -55,7 +55,7 @@ abbrev pub flagged : Bool → Column → RelationColumn
 flagged is_key column =
     record { is_key = is_key; name = column.name; type_oid = type_oid_of column.kind; type_modifier = negsuc 0 }
 
--- the column of this number: the flag marks those of the replica identity, under FULL all
+-- the column with this number: the flag marks those of the replica identity, under FULL all
 abbrev pub sent_column : Table → ℕ → Column → RelationColumn
 sent_column table number column = flagged (is_covered table number) column
 
@@ -160,7 +160,7 @@ abbrev pub enclosed : CommitOf → List Msg → List Msg
 enclosed commit [] = []
 enclosed commit (first ∷ others) = begin_msg commit ∷ (first ∷ others) ++ commit_msg commit ∷ []
 
--- the messages of a commit for the subscriber of this number, if these Relations were sent before it
+-- the messages of a commit for the subscriber with this number, if these Relations were sent before it
 abbrev pub messages_for : CheckedOf → ℕ → List Bool → CommitOf → List Msg
 messages_for checked subscriber sent commit = enclosed commit (said_each checked subscriber sent commit.changes)
 

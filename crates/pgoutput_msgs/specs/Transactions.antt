@@ -30,7 +30,7 @@ tables_of (s.Truncate numbers) = numbers
 abbrev pub is_among : ℕ → List ℕ → Bool
 is_among number numbers = list_any (nat_eq number) numbers
 
--- the Relation of the table of this number, if it was not named before
+-- the Relation of the table with this number, if it was not named before
 abbrev pub first_relation : List Table → List ℕ → ℕ → List Msg
 first_relation tables named number = if is_among number named then [] else a_relation number (slice_get tables number)
 

@@ -20,10 +20,10 @@ use crate::update::read_update;
 use std::alloc::Global;
 
 /// The message that all of the bytes spell. If they spell none, the error is the first fault from the left: a byte that
-/// can't be there (`Unknown`), a value that was left out (`Toast`), a negative count or length (`BadCount`), bytes that
-/// are missing (`Short`), a name or text that isn't UTF-8 (`BadText`), bytes after the message (`Trailing`). A message
-/// may begin with what is before the fault, and no message continues with the bytes there (`fault`). Out of memory may
-/// be returned in place of any of these.
+/// cannot be there (`Unknown`), a value that was left out (`Toast`), a negative count or length (`BadCount`), bytes
+/// that are missing (`Short`), a name or text that is not UTF-8 (`BadText`), bytes after the message (`Trailing`). A
+/// message may begin with what is before the fault, and no message continues with the bytes there (`fault`). Out of
+/// memory may be returned instead of any of these.
 ///
 /// PostgreSQL 15, 55.9. Logical Replication Message Formats.
 pub fn decode(alloc: Global, bytes: &[u8]) -> Result<Msg, MsgError>

@@ -29,7 +29,7 @@ use tables_log::Commit;
 
 /// The messages that report a commit to the subscriber of this number: Begin, then for each change that is for it the
 /// message of what it gets, and Commit; none if no change is for it. `relation_sent` is, for each table by its number,
-/// whether its Relation was sent: one that wasn't is sent directly before the first message that names its table,
+/// whether its Relation was sent: one that was not is sent directly before the first message that names its table,
 /// before a Truncate in its order, and is marked from then on. Each message fits its layout (`room`), the bytes that
 /// spell it are decoded as that message, and there are at most 13,108,011 of them (`sent`). Positions and transaction
 /// numbers are those of `Lsn` and `xid_of_commit`, and OIDs those of `oid_of`. The only error is out of memory, which

@@ -29,7 +29,7 @@ pub record CatalogOf (S : Type 0) : Type 0 where
 abbrev pub every_operation : Operations
 every_operation = record { insert = true; update = true; delete = true; truncate = true }
 
--- the schema of the table of this number
+-- the schema of the table with this number
 abbrev pub schema_at : List Table → ℕ → List ℕ
 schema_at [] number = []
 schema_at (table ∷ tables) zero = table.schema

@@ -26,7 +26,7 @@ action ts = action_by (item_ahead ts) ts
 
 -- ---- by an index
 
--- the identity by the index of this number, which must exist and identify rows
+-- the identity by the index with this number, which must exist and identify rows
 abbrev pub by_index : List Column → List UniqueIndex → PlacedName → Option ℕ → Verdict Identity
 by_index columns indexes called None = Err (fault called.place w.UnknownName)
 by_index columns indexes called (Some number) =

@@ -19,8 +19,8 @@ use Rattle.pub_reader.specs.Drafts.{DraftOf, find_relation}
 use Rattle.pub_reader.specs.Schemas.{fresh}
 use Rattle.pub_reader.specs.TableNames.{table_number}
 
--- a new index of the table of this number has a name that no table and no index of the table's schema has, and a table
--- has at most 8 indexes
+-- a new index of the table with this number has a name that no table and no index of the table's schema has, and a
+-- table has at most 8 indexes
 unfoldable pub check_new_index : List Table → ℕ → PlacedName → Verdict (Unit {0})
 check_new_index tables number called =
     fresh called (find_relation (schema_at tables number) called.text tables)

@@ -57,7 +57,7 @@ fn check_refused(
     check_accepted(alloc, book, answer, entries).context("the same commit next")
 }
 
-/// Makes the last commit with its request of this number refused, and tests what follows. Returns whether it was
+/// Makes the last commit with request `number` refused, and tests what follows. Returns whether it was
 /// refused.
 pub fn is_refused(alloc: Global, number: u16) -> Result<bool> {
     let Published { mut book, .. } = begun(alloc)?;

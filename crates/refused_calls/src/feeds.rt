@@ -50,7 +50,7 @@ fn check_shut(
     Ok(())
 }
 
-/// Feeds a subscriber the whole stream with the request of this number refused, and tests what follows. Returns whether
+/// Feeds a subscriber the whole stream with request `number` refused, and tests what follows. Returns whether
 /// it was refused.
 pub fn is_refused(alloc: Global, number: u16) -> Result<bool> {
     let mut published = whole(alloc)?;

@@ -43,7 +43,7 @@ fn check_said(output: &[u8], is_all: bool) -> Result<()> {
     Ok(())
 }
 
-/// Has a link hear a Query and statuses with the request of this number refused, and tests what follows: the link is
+/// Has a link hear a Query and statuses with request `number` refused, and tests what follows: the link is
 /// closed, and another can start its slot. Returns whether it was refused.
 pub fn is_refused(alloc: Global, number: u16) -> Result<bool> {
     let mut published = whole(alloc)?;

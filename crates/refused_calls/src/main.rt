@@ -63,7 +63,7 @@ const CALLS: &[(Call, &str)] = &[
     (Call::Serve, "serve"),
 ];
 
-/// Makes the call with its request of this number refused, and tests what follows. Returns whether it was refused.
+/// Makes the call with request `number` refused, and tests what follows. Returns whether it was refused.
 fn is_refused<R: Threads + Wait + Clock + Sync>(
     rt: &R,
     alloc: Global,

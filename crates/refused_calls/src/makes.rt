@@ -23,7 +23,7 @@ fn is_made(alloc: Global, arena: &Bump, catalog: &Catalog, plan: &Plan) -> Resul
     Ok(!is_refusal)
 }
 
-/// Makes a certificate with the request of this number refused, and tests what follows: the arena is reset, and can be
+/// Makes a certificate with request `number` refused, and tests what follows: the arena is reset, and can be
 /// used for the next one. Returns whether it was refused.
 pub fn is_refused(alloc: Global, number: u16) -> Result<bool> {
     let catalog = catalog(alloc)?;

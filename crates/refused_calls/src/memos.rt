@@ -74,7 +74,7 @@ fn check_found(memo: &mut Memo, rows: &[(Row, &str)]) -> Result<()> {
     Ok(())
 }
 
-/// Makes a memo and looks up the rows' texts with the request of this number refused, and tests what follows: the memo,
+/// Makes a memo and looks up the rows' texts with request `number` refused, and tests what follows: the memo,
 /// or a new one if there is none, has only its own text for a row, and keeps all of them. Returns whether it was
 /// refused.
 pub fn is_refused(alloc: Global, number: u16) -> Result<bool> {

@@ -24,7 +24,7 @@ use std::thread::Threads;
 use std::time::Clock;
 use test_subscriber::Subscriber;
 
-/// Serves a client that sends this Query, with the request of this number refused. It ends the connection when it has
+/// Serves a client that sends this Query, with request `number` refused. It ends the connection when it has
 /// the wanted number of bytes, or once the request is refused. Returns the result, what the client got, and whether
 /// there was a refusal.
 fn serve_query<P: Publishing + Sync, R: Threads + Wait + Clock + Sync>(
@@ -61,7 +61,7 @@ fn check_served(served: &Served, from: u64, was_refused: bool) -> Result<()> {
     Ok(())
 }
 
-/// Serves a subscriber on a new connection, with the request of this number refused. Returns the result, and whether
+/// Serves a subscriber on a new connection, with request `number` refused. Returns the result, and whether
 /// there was a refusal.
 fn connect<P: Publishing + Sync, R: Threads + Wait + Clock + Sync>(
     rt: &R,
@@ -80,7 +80,7 @@ fn connect<P: Publishing + Sync, R: Threads + Wait + Clock + Sync>(
     Ok((served, was_refused))
 }
 
-/// Serves a subscriber with the request of this number refused, and then on a new connection, which brings it to the
+/// Serves a subscriber with request `number` refused, and then on a new connection, which brings it to the
 /// end of the log. Returns both results, and whether there was a refusal.
 fn connect_twice<P: Publishing + Sync, R: Threads + Wait + Clock + Sync>(
     rt: &R,
@@ -110,7 +110,7 @@ fn commit_all<P: Publishing, R: Wait>(
     Ok(())
 }
 
-/// Has a new publisher serve a subscriber with the request of this number refused.
+/// Has a new publisher serve a subscriber with request `number` refused.
 fn publish<P: Publishing + Sync, R: Threads + Wait + Clock + Sync>(
     rt: &R,
     alloc: Global,
@@ -136,7 +136,7 @@ fn publish<P: Publishing + Sync, R: Threads + Wait + Clock + Sync>(
     Ok(was_refused)
 }
 
-/// Has a publisher serve a subscriber with the request of this number refused, and tests what follows: the slot is
+/// Has a publisher serve a subscriber with request `number` refused, and tests what follows: the slot is
 /// released, and the publisher can be closed. Returns whether it was refused.
 pub fn is_refused<R: Threads + Wait + Clock + Sync>(
     rt: &R,

@@ -49,7 +49,7 @@ pub fn check_closes<P: Publishing>(
     check_book(alloc, &closed.book, COMMITS)
 }
 
-/// Makes the last commit with its request of this number refused, and tests what follows: the seat is as it was, and
+/// Makes the last commit with request `number` refused, and tests what follows: the seat is as it was, and
 /// the same commit is accepted next. Returns whether it was refused.
 fn commit_last<P: Publishing, R: Wait>(
     rt: &R,
@@ -80,7 +80,7 @@ fn commit_last<P: Publishing, R: Wait>(
     Ok(was_refused)
 }
 
-/// Has a session of a new publisher make the last commit with its request of this number refused.
+/// Has a session of a new publisher make the last commit with request `number` refused.
 fn publish<P: Publishing, R: Wait>(
     rt: &R,
     alloc: Global,
@@ -103,7 +103,7 @@ fn publish<P: Publishing, R: Wait>(
     Ok(was_refused)
 }
 
-/// Has a session make the last commit with its request of this number refused, and tests what follows. Returns whether
+/// Has a session make the last commit with request `number` refused, and tests what follows. Returns whether
 /// it was refused.
 pub fn is_refused<R: Wait>(rt: &R, alloc: Global, number: u16) -> Result<bool> {
     publish::<Brand, _>(rt, alloc, Opening::new(alloc)?, checked(alloc)?, number)

@@ -128,7 +128,7 @@ pub fn check_book(alloc: Global, book: &Book, commits: u64) -> Result<()> {
     Ok(())
 }
 
-/// Where the commit of this number ends in the log, in bytes; 0 for none.
+/// Where the commit with this number ends in the log, in bytes; 0 for none.
 pub fn end_of(number: u64) -> u64 {
     match number {
         0 => 0,

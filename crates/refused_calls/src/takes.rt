@@ -19,7 +19,7 @@ fn take_first(link: &mut Link, book: &Book) -> Result<()> {
     Ok(())
 }
 
-/// Takes the last commit with the request of this number refused, and tests what follows: nothing of a refused commit
+/// Takes the last commit with request `number` refused, and tests what follows: nothing of a refused commit
 /// waits, and the link is closed. Returns whether it was refused.
 pub fn is_refused(alloc: Global, number: u16) -> Result<bool> {
     let mut published = whole(alloc)?;

@@ -146,7 +146,7 @@ fn check_pump(world: &mut World, subscriber: usize) -> Result<()> {
     Ok(())
 }
 
-/// Makes all events with the request of this number refused, and tests what follows: a refused commit changes nothing,
+/// Makes all events with request `number` refused, and tests what follows: a refused commit changes nothing,
 /// and anything else loses the connection; then everything that remains happens. Returns whether it was refused.
 pub fn is_refused(alloc: Global, number: u16) -> Result<bool> {
     let mut world = World::new(alloc, checked(alloc)?, 1_000)?;

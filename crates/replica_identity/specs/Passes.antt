@@ -16,7 +16,7 @@ abbrev pub listed_by : List (PublicationOf Expr) → Option Subscription → Lis
 listed_by publications None = []
 listed_by publications (Some subscription) = listed publications subscription
 
--- the publications that the subscriber of this number subscribes to
+-- the publications that the subscriber with this number subscribes to
 abbrev pub taken : CatalogOf Expr → ℕ → List (PublicationOf Expr)
 taken catalog subscriber = listed_by catalog.publications (slice_get catalog.subscriptions subscriber)
 

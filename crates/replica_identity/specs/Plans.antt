@@ -23,7 +23,7 @@ abbrev pub shares_from : List (EntryOf Expr) → ℕ → List Table → List Sha
 shares_from entries number [] = []
 shares_from entries number (table ∷ tables) = share_from entries number ∷ shares_from entries (number + 1) tables
 
--- the entries of the publication of this number
+-- the entries of the publication with this number
 abbrev pub entries_in : Option (PublicationOf Expr) → List (EntryOf Expr)
 entries_in None = []
 entries_in (Some publication) = publication.entries

@@ -14,7 +14,7 @@ use Rattle.table_changes.specs.Columns.{values_at, unless_null}
 use Rattle.table_changes.specs.Keys.{key_at, HasPrimaryKeys}
 use Rattle.table_changes.specs.Setting.{Setting}
 
--- the table of this number exists
+-- the table with this number exists
 pub record HasTable (setting : Setting) (number : ℕ) (table : Table) : Type 0 where
   pub known : setting.known number ≡ true
   pub fault : (row : List Datum) → setting.fault number row ≡ row_fault table.columns row

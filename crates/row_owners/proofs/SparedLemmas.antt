@@ -1,4 +1,5 @@
--- Changes that are only for others: those that a subscriber is spared by their sets, and commits that do not concern it.
+-- Changes that are only for others: those that a subscriber is spared by their sets, and commits that do not concern
+-- it.
 use Rattle.std.proofs.Common.{◌≡◌, ℕ, suc, ◌+◌, ◌-◌, ◌<◌, ◌≤◌, Bool, true, false, cond, Some, List, [], ◌∷◌, length, get_or, count_by, refl, sym, ap, subst, ◌∙◌, inl, inr, arith}
 use Rattle.std.specs.Prelude.{Option, IfSome, IsTrue, slice_get}
 use Rattle.std.specs.List.{list_any}

@@ -11,7 +11,7 @@ use Rattle.table_changes.specs.Records.{ChangeOf}
 use Rattle.row_owners.specs.declared.owner_set.OwnerSet.{OwnerSet}
 use Rattle.row_owners.specs.declared.routes.Routes.{Routes}
 
--- the set has the subscriber of this number
+-- the set has the subscriber with this number
 abbrev pub owned : OwnerSet → ℕ → Bool
 owned set subscriber = bit_at set.bits subscriber == 1
 

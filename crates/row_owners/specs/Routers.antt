@@ -49,7 +49,7 @@ pub record IsKept (plan : PlanOf) (table : ℕ) (atoms : Atoms) (slot : Option K
   pub owns : (kept : KeptOwners) → slot ≡ Some kept → (row : List Datum) → Locates atoms row kept.said
       → OwnsRow plan table row kept.owners
 
--- The router is one of the table of this number.
+-- The router is one of the table with this number.
 pub record RoutesTable (plan : PlanOf) (table : ℕ) (router : TableRouter) : Type 0 where
   pub atoms : IsAtomsOf (filters_of plan table) router.atoms
   pub kept : All (IsKept plan table router.atoms) router.slots.items

@@ -32,8 +32,8 @@ fn commit_rows<P: Publishing, R: Wait>(
     Ok(())
 }
 
-/// That the commits that the log has when a client connects are written in three pushes after the start, of 64 KiB and a
-/// commit at most.
+/// That the commits that the log has when a client connects are written in three pushes after the start, of 64 KiB and
+/// a commit at most.
 pub(crate) fn expect_batches<P: Publishing + Sync, R: Threads + Wait + Clock + Abort + Sync>(
     rt: &R,
     alloc: Global,

@@ -145,7 +145,7 @@ impl Board {
         self.failures.load(Ordering::SeqCst) == 0
     }
 
-    /// The commit of this number has returned.
+    /// The commit with this number has returned.
     pub(crate) fn returns(&self, number: u32) {
         self.returned.fetch_max(u64::from(number), Ordering::SeqCst);
     }

@@ -149,8 +149,8 @@ fn has_only(subscriber: &Subscriber, wanted: &Row) -> Option<bool> {
     }
 }
 
-/// Follows the stream of the slot, once the program listens, until the subscriber has a row, which has to be this one and
-/// no other. It closes then.
+/// Follows the stream of the slot, once the program listens, until the subscriber has a row, which has to be this one
+/// and no other. It closes then.
 pub(crate) fn follow_to<R: Clock + Net<Listener = TcpListener, Stream = TcpStream>>(
     rt: &R,
     board: &Board,

@@ -1,4 +1,4 @@
-//! Publishers that are closed, and that can't be.
+//! Publishers that are closed, and that cannot be.
 
 use crate::checks::same;
 use crate::work::{Work, key_of};
@@ -25,7 +25,7 @@ pub(crate) enum Lacks {
     Nothing,
 }
 
-/// The commit of this number, as it is given to a sender.
+/// The commit with this number, as it is given to a sender.
 fn given<P: Publishing, R: Wait>(
     rt: &R,
     publisher: &Publisher<P>,

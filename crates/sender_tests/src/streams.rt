@@ -1,5 +1,5 @@
-//! Readers and writers that a started program does not have, by `run`. Those whose reads and writes fail at any call are
-//! in `tools/testing/failed`, with the built program.
+//! Readers and writers that a started program does not have, by `run`. Those whose reads and writes fail at any call
+//! are in `tools/testing/failed`, with the built program.
 
 use crate::checks::{holds, same};
 use cli::run;
@@ -161,7 +161,7 @@ impl Write for Recovering {
     }
 }
 
-/// That a run which writes rows, or why it can't, writes nothing after its first write has failed.
+/// That a run which writes rows, or why it cannot, writes nothing after its first write has failed.
 fn expect_silence(rt: &impl Abort, alloc: Global, table: &str) {
     let mut writer = Recovering {
         taken: Vec::new(alloc),

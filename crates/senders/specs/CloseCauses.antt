@@ -22,7 +22,7 @@ use Rattle.senders.specs.TakenCommits.{IsTaken}
 use Rattle.senders.specs.declared.close_error.CloseError.{CloseError}
 use Rattle.senders.specs.declared.close_error.CloseError.TheVariants.{CountDiffers, ReceiptMissing, ReadingWrong, TakenDiffers, StartLate, OutOfMemory}
 
--- ---- a receipt that the log doesn't have
+-- ---- a receipt that the log does not have
 
 -- the commands of the receipts before this place are accepted one after another, and those of the receipt there are
 -- not accepted after them
@@ -50,14 +50,14 @@ pub data IsUnlike (setting : Setting) (log : List CommitOf) (order : List Receip
   IsOtherThere : HasOtherEntry setting log order → IsUnlike setting log order
 
 pub data IsMissing (setting : Setting) (log : List CommitOf) (seats : List SeatOf) : Type 0 where
-  -- the numbers of a seat's receipts don't rise in its order, from 1 at least to the log's length at most
+  -- the numbers of a seat's receipts do not rise in its order, from 1 at least to the log's length at most
   IsFalling : ¬ All (IsRisingSeat (length log)) seats → IsMissing setting log seats
   -- of the receipts of all seats, sorted by their numbers, one has the number 0, that of the one before it, or one
   -- above the log's length
   IsRepeated : (sorted : List ReceiptOf) → IsPermutation (all_receipts seats) sorted
       → IsNonDecreasingBy (λ (receipt : ReceiptOf). receipt.number) sorted
       → ¬ RiseTo (length log) 0 (numbers_of sorted) → IsMissing setting log seats
-  -- one is refused, or isn't what the log has
+  -- one is refused, or is not what the log has
   IsNotLogged : (order : List ReceiptOf) → AreInOrder seats order → IsUnlike setting log order
       → IsMissing setting log seats
 

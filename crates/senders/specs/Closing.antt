@@ -15,11 +15,10 @@ use Rattle.senders.specs.Reached.{AreReached}
 use Rattle.senders.specs.TakenCommits.{IsTaken}
 
 -- The book is of the checked catalog, takes this number of commits, and is that of the transactions of the receipts
--- in the order of their numbers; its log has an entry for each. What each seat has seen is a beginning of these receipts.
--- Each reading is right by these transactions, and is of no fewer commits than an earlier note of its seat knows of.
--- Times have 64 bits. Each connection took the commits
--- of the book's log. Each commit before the start of a connection was taken for a connection of its slot, or is before a
--- position that a client of the slot requested.
+-- in the order of their numbers; its log has an entry for each. What each seat has seen is a beginning of these
+-- receipts. Each reading is right by these transactions, and is of no fewer commits than an earlier note of its seat
+-- knows of. Times have 64 bits. Each connection took the commits of the book's log. Each commit before the start of a
+-- connection was taken for a connection of its slot, or is before a position that a client of the slot requested.
 pub record IsClosed (checked : CheckedOf) (limit : ℕ) (seats : List SeatOf) (served : List Served) (book : Book)
     : Type 0 where
   pub named : book_checked book ≡ checked

@@ -10,7 +10,7 @@ use tables_log::CommitError;
 /// The time of each commit, which has bits past the first 32.
 pub(crate) const TIME: u64 = 0x8000_0100_0000_0001;
 
-/// The key of the row of this number.
+/// The key of the row with this number.
 pub(crate) fn key(alloc: Global, number: i64) -> Result<Row, AllocError> {
     Ok(Row::from_values(vec![in alloc; Value::Int(number)]?))
 }
@@ -39,7 +39,7 @@ pub(crate) fn commit<P: Publishing, R: Wait>(
     publisher.commit(rt, seat, commands, TIME)
 }
 
-/// The answer to a reading of the row of this number.
+/// The answer to a reading of the row with this number.
 pub(crate) fn read<P: Publishing, R: Wait>(
     rt: &R,
     alloc: Global,

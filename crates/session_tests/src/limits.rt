@@ -26,7 +26,7 @@ fn puts(alloc: Global, count: i64) -> Result<Vec<Command>, AllocError> {
     Ok(list)
 }
 
-/// A delete of the row of this number.
+/// A delete of the row with this number.
 fn take(alloc: Global, table: usize, number: i64) -> Result<Command, AllocError> {
     Ok(Command::Delete {
         table,

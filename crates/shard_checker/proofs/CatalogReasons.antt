@@ -194,7 +194,7 @@ uncovered publication number table (column ∷ columns) error h =
     (column_failed (is_covered table column) (column_refusal publication number table columns)
     (NotCovered publication number column) error h)
 
--- an entry has a filter that names a column that isn't covered
+-- an entry has a filter that names a column that is not covered
 pub record EntryIsWrong (tables : List Table) (publication : ℕ) (entry : EntryOf Expr) (error : CheckError) :
     Type 0 where
   pub column : ℕ

@@ -18,7 +18,7 @@ not_false : (b : Bool) → not b ≡ false → b ≡ true
 not_false true h = refl
 not_false false h = absurd cc
 
--- ---- a term that isn't empty has a value
+-- ---- a term that is not empty has a value
 
 second_false : (p q : Bool) → p ≡ true → (p && q) ≡ false → q ≡ false
 second_false true q e h = h
@@ -40,7 +40,7 @@ not_empty_has columns term path h = by_test (is_present columns (column_of term)
     })
     (λ absent. record { value = Missing; left = absent })
 
--- ---- a term that has a value isn't empty
+-- ---- a term that has a value is not empty
 
 first_fails : (p q r : Bool) → p ≡ false → (p && (q || not r)) ≡ false
 first_fails true q r h = absurd cc

@@ -41,7 +41,7 @@ near_below : (number : ℤ) (far : ℕ) → nat_abs number < suc far → number 
 near_below (pos n) far near = omega (arith, ints)
 near_below (negsuc n) far near = omega (arith, ints)
 
--- by a divisor that isn't 0 it is nearer to 0 than the divisor
+-- by a divisor that is not 0 it is nearer to 0 than the divisor
 rem_within : (number divisor : ℤ) → (divisor ≡ pos 0 → ⊥)
     → (neg_ℤ (greatest_remainder divisor) ≤ℤ int_rem number divisor)
     × (int_rem number divisor ≤ℤ greatest_remainder divisor)
@@ -164,7 +164,7 @@ missing_past columns row column valid past =
     let short : length row ≤ column = omega (arith, valid.wide) in
     rw (slice_get_past row column short) refl
 
--- the value of a column that isn't null
+-- the value of a column that is not null
 column_known : (columns : List Column) (found : Option Column) (term : Term) (row : List Datum) (value : Constant)
     → IfSome found (λ column. MayHold column (Known value))
     → (found ≡ None → value_at row (column_of term) ≡ Missing) → value_at row (column_of term) ≡ Known value

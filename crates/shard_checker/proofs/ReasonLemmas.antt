@@ -65,7 +65,7 @@ refused_certificate plan subscriptions number (table ∷ tables) (tree ∷ trees
           ≡ Some error) (sym (at_next number rest.place)) rest.refused;
     })
 
--- the error names a node of the certificate of the table of this number
+-- the error names a node of the certificate of the table with this number
 abbrev NamesNode : ℕ → CheckError → Type 0
 NamesNode number (BadIndex table node) = number ≡ table
 NamesNode number (NotEmpty table node) = number ≡ table
@@ -166,7 +166,7 @@ identity_wrong catalog plan trees error h =
     subst (ShardingIsWrong catalog plan trees) (sym is)
     (record { table = found.table; there = found.there; untold = found.untold })
 
--- a subscription names the publication of this number, and an entry of it is wrong
+-- a subscription names the publication with this number, and an entry of it is wrong
 entry_is_wrong : (catalog : CatalogOf Expr) (plan : PlanOf) (trees : List Tree) (error : CheckError) (number : ℕ)
     (publication : PublicationOf Expr)
     → slice_get catalog.publications number ≡ Some publication → is_taken catalog.subscriptions number ≡ true

@@ -161,7 +161,7 @@ all_covered tables subscriptions number (publication ∷ publications) known h (
 
 -- ---- certificates
 
--- each row that fits the table of this number has one owner
+-- each row that fits the table with this number has one owner
 abbrev HasOwners : (ℕ → List s.ShareOf) → ℕ → Table → Type 0
 HasOwners shares number table = (row : List Datum) → IsTyped table.columns row → HasOneOwner (shares number) row
 

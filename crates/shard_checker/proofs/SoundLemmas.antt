@@ -41,7 +41,7 @@ known_found columns row term path value valid agrees is =
     value_found (kind_at columns (column_of term)) term path known.value known.in_domain
     (value_left row term known.value path agrees known.is)
 
--- a row on which the column isn't null
+-- a row on which the column is not null
 some_found : (columns : List Column) (row : List Datum) (term : Term) (path : Path) (value : Datum)
     → IsTyped columns row → Agrees row path
     → (value ≡ Missing → ⊥) → value_at row (column_of term) ≡ value

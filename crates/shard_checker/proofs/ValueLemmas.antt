@@ -179,7 +179,7 @@ text_apart term path text named left gone = not_true_false (bytes_eq text named)
     (λ same. let e : text ≡ named = (bytes_eq-Decides text named).0 same in
     clash (may_be term path (Some (Bytes named))) (subst (λ t. may_be term path (Some (Bytes t)) ≡ true) e left) gone)
 
--- a text that isn't the constant compares like any other such text
+-- a text that is not the constant compares like any other such text
 unnamed_text : (op : Op) (text : List ℕ) (constant : Constant) → compares Eq (Some (Bytes text)) constant ≡ false
     → compares op (Some (Bytes text)) constant ≡ compares op None constant
 unnamed_text Eq text (Number k) apart = refl

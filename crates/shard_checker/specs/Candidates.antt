@@ -82,7 +82,7 @@ has_value BigInt term path = has_number (range_of BigInt term) term path
 has_value Boolean term path = may_be term path (Some (Truth true)) || may_be term path (Some (Truth false))
 has_value Text term path = has_text term path
 
--- no value is left: the column isn't null, and would have to be, or none of the tried values is left
+-- no value is left: the column is not null, and would have to be, or none of the tried values is left
 abbrev pub is_empty : List Column → Term → Path → Bool
 is_empty columns term path =
     is_present columns (column_of term) path

@@ -23,7 +23,7 @@ use Rattle.shard_checker.specs.declared.error.Operation.TheVariants.{Insert, Upd
 
 -- ---- what is published
 
--- the first of insert, update, delete and truncate that isn't published
+-- the first of insert, update, delete and truncate that is not published
 abbrev pub missing_operation : Operations → Option Operation
 missing_operation publishes =
     if publishes.insert
@@ -71,7 +71,7 @@ filter_refusal publication number table None = None
 filter_refusal publication number table (Some filter) =
     column_refusal publication number table (distinct_columns filter)
 
--- for the table of this number; the entries of a catalog are for tables that exist
+-- for the table with this number; the entries of a catalog are for tables that exist
 abbrev pub carried_refusal : ℕ → ℕ → Option Table → Option Expr → Option CheckError
 carried_refusal publication number None filter = None
 carried_refusal publication number (Some table) filter = filter_refusal publication number table filter
@@ -104,7 +104,7 @@ table_shares plan table number [] = []
 table_shares plan table number (subscription ∷ subscriptions) =
     share_at plan number table ∷ table_shares plan table (number + 1) subscriptions
 
--- the refusal of the certificate of the table of this number
+-- the refusal of the certificate of the table with this number
 abbrev pub certificate_refusal : EmptyTest → PlanOf → List Subscription → ℕ → Table → Tree → Option CheckError
 certificate_refusal is_empty plan subscriptions number table tree =
     first_refusal is_empty number table (table_shares plan number 0 subscriptions) tree

@@ -23,20 +23,20 @@ has_operation publishes Update = publishes.update
 has_operation publishes Delete = publishes.delete
 has_operation publishes Truncate = publishes.truncate
 
--- a subscription names the publication of this number, and it does not publish the operation
+-- a subscription names the publication with this number, and it does not publish the operation
 pub record DoesNotPublish (catalog : CatalogOf Expr) (number : ℕ) (operation : Operation) : Type 0 where
   pub publication : PublicationOf Expr
   pub there : slice_get catalog.publications number ≡ Some publication
   pub taken : is_taken catalog.subscriptions number ≡ true
   pub missing : has_operation publication.publishes operation ≡ false
 
--- the replica identity of the table of this number does not distinguish its rows
+-- the replica identity of the table with this number does not distinguish its rows
 pub record TellsNoRows (catalog : CatalogOf Expr) (number : ℕ) : Type 0 where
   pub table : Table
   pub there : slice_get catalog.tables number ≡ Some table
   pub untold : tells_rows_apart table ≡ false
 
--- the filter of an entry for the table of this number, which exists, names a column of it that the table's replica
+-- the filter of an entry for the table with this number, which exists, names a column of it that the table's replica
 -- identity lacks
 pub record NamesUncovered (tables : List Table) (entry : EntryOf Expr) (number column : ℕ) : Type 0 where
   pub of_table : entry.table ≡ number
@@ -48,7 +48,7 @@ pub record NamesUncovered (tables : List Table) (entry : EntryOf Expr) (number c
   pub within : column < length table.columns
   pub lacks : is_covered table column ≡ false
 
--- a subscription names the publication of this number, and it has such an entry
+-- a subscription names the publication with this number, and it has such an entry
 pub record HasUncovered (catalog : CatalogOf Expr) (number table column : ℕ) : Type 0 where
   pub publication : PublicationOf Expr
   pub there : slice_get catalog.publications number ≡ Some publication
@@ -57,7 +57,7 @@ pub record HasUncovered (catalog : CatalogOf Expr) (number table column : ℕ) :
   pub has_entry : Contains publication.entries entry
   pub uncovered : NamesUncovered catalog.tables entry table column
 
--- what the error says about the certificate of the table of this number is true
+-- what the error says about the certificate of the table with this number is true
 pub record HasWrongCertificate (catalog : CatalogOf Expr) (plan : PlanOf) (trees : List Tree) (number : ℕ)
     (error : CheckError) : Type 0 where
   pub table : Table

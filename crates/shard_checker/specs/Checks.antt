@@ -9,7 +9,7 @@ abbrev pub Finds : {A : Type 0} → Option CheckError → Result A CheckError �
 Finds refusal (Ok value) = refusal ≡ None
 Finds refusal (Err error) = refusal ≡ Some error
 
--- the result is the refusal, or out of memory, which may come in place of any other result
+-- the result is the refusal, or out of memory, which may come instead of any other result
 abbrev pub Checks : {A : Type 0} → Option CheckError → Result A CheckError → Type 0
 Checks refusal (Ok value) = refusal ≡ None
 Checks refusal (Err error) = error ≢ OutOfMemory → refusal ≡ Some error
@@ -19,7 +19,7 @@ abbrev pub error_of : {A : Type 0} → Result A CheckError → Option CheckError
 error_of (Ok value) = None
 error_of (Err error) = Some error
 
--- either the refusal is still due, or the result is the refusal, or out of memory in place of it
+-- either the refusal is still due, or the result is the refusal, or out of memory instead of it
 abbrev pub Defers : {A : Type 0} → Option CheckError → Option CheckError → Result A CheckError → Type 0
 Defers refusal due (Ok value) = due ≡ refusal
 Defers refusal due (Err error) = error ≢ OutOfMemory → refusal ≡ Some error

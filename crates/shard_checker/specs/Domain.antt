@@ -1,4 +1,4 @@
--- Which values a term has when its column isn't null: "8.1 Numeric Types" and the remainder of "9.3 Mathematical
+-- Which values a term has when its column is not null: "8.1 Numeric Types" and the remainder of "9.3 Mathematical
 -- Functions and Operators", whose sign is that of the number.
 use Rattle.std.specs.Prelude.{ℕ, ◌-◌, ℤ, pos, negsuc, neg_ℤ, ◌≤ℤ◌, if◌then◌else◌, List, Option, Some, None, slice_get}
 use Rattle.std.specs.Int.{int_max, int_min}
@@ -22,7 +22,7 @@ kind_at columns column = kind_in (slice_get columns column)
 
 -- ---- the domain of a term
 
--- the greatest remainder by a divisor that isn't 0: its distance from 0, less 1
+-- the greatest remainder by a divisor that is not 0: its distance from 0, less 1
 abbrev pub greatest_remainder : ℤ → ℤ
 greatest_remainder (pos n) = pos (n - 1)
 greatest_remainder (negsuc n) = pos n

@@ -40,7 +40,7 @@ tells_present (Distinct term constant) value = same_tri value False
 abbrev pub says_null : ℕ → AtomOf → Tri → Bool
 says_null column atom value = tells_null atom value && (column_of (term_of atom) == column)
 
--- it says that the column isn't null
+-- it says that the column is not null
 abbrev pub says_present : ℕ → AtomOf → Tri → Bool
 says_present column atom value = tells_present atom value && (column_of (term_of atom) == column)
 
@@ -56,11 +56,11 @@ is_declared columns column = not_null_in (slice_get columns column)
 abbrev pub is_said_null : ℕ → Path → Bool
 is_said_null column path = list_any (λ entry. says_null column entry.0 entry.1) path
 
--- some atom says that the column isn't null
+-- some atom says that the column is not null
 abbrev pub is_found_present : ℕ → Path → Bool
 is_found_present column path = list_any (λ entry. says_present column entry.0 entry.1) path
 
--- the column is declared NOT NULL, or some atom says that it isn't null
+-- the column is declared NOT NULL, or some atom says that it is not null
 abbrev pub is_present : List Column → ℕ → Path → Bool
 is_present columns column path = is_declared columns column || is_found_present column path
 

@@ -12,7 +12,7 @@ use Rattle.replica_identity.specs.declared.share.Share.{Share}
 abbrev pub shares_view : {A : _} → List (Bor (Share A)) → List ShareOf
 shares_view shares = map (λ share. share_view share.now) shares
 
--- the share of this number; nothing for others
+-- the share with this number; nothing for others
 abbrev pub share_in : List ShareOf → ℕ → ShareOf
 share_in shares number = slice_index_or shares number Nothing
 
@@ -38,7 +38,7 @@ may_take Nothing path = false
 may_take Everything path = true
 may_take (Where filter) path = (possible_of filter path).truth
 
--- the share of this number is not the owner's, and may take a row
+-- the share with this number is not the owner's, and may take a row
 abbrev pub is_second : ℕ → ℕ → ShareOf → Path → Bool
 is_second owner number share path = not (number == owner) && may_take share path
 

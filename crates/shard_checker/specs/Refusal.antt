@@ -53,7 +53,7 @@ subject_view subject =
 abbrev pub later : ℕ → ℕ → ℕ
 later node count = min (node + count) (2 ^ 64 - 1)
 
--- ---- what a node that isn't a split says, at the end of a path
+-- ---- what a node that is not a split says, at the end of a path
 
 abbrev pub second_refusal : Subject → ℕ → Option ℕ → Option CheckError
 second_refusal subject node None = None
@@ -109,7 +109,7 @@ refusal is_empty subject (Empty term) path node =
 refusal is_empty subject (NeverNull index) path node =
     never_null_refusal subject path node (slice_get subject.atoms index)
 
--- the first refusal in the certificate of the table of this number
+-- the first refusal in the certificate of the table with this number
 abbrev pub first_refusal : EmptyTest → ℕ → Table → List ShareOf → Tree → Option CheckError
 first_refusal is_empty number table shares tree = refusal is_empty (subject_of number table.columns shares) tree [] 0
 

@@ -17,7 +17,7 @@ use Rattle.shard_checker.specs.Rows.{IsTyped}
 abbrev pub is_listed : ℕ → Subscription → Bool
 is_listed publication subscription = list_any (λ number. number == publication) subscription.publications
 
--- some subscription names the publication of this number
+-- some subscription names the publication with this number
 abbrev pub is_taken : List Subscription → ℕ → Bool
 is_taken subscriptions publication = list_any (is_listed publication) subscriptions
 

@@ -24,7 +24,7 @@ names_only atoms (e.And left right) = names_only atoms left && names_only atoms 
 names_only atoms (e.Or left right) = names_only atoms left && names_only atoms right
 names_only atoms (e.Is test part) = names_only atoms part
 
--- the step of this number is the filter, and each part of the filter is a step too
+-- the step with this number is the filter, and each part of the filter is a step too
 abbrev pub Stands : List AtomOf → List FormulaNode → ℕ → Expr → Type 0
 Stands atoms steps number (e.Const known) = slice_get steps number ≡ Some (Const known)
 Stands atoms steps number (e.Atom atom) = (place : ℕ)
@@ -112,7 +112,7 @@ abbrev pub all_name_only : List AtomOf → List ShareOf → Bool
 all_name_only atoms [] = true
 all_name_only atoms (share ∷ shares) = names_only atoms (filter_of share) && all_name_only atoms shares
 
--- the steps of these numbers are the filters of the shares, each in its place
+-- the steps with these numbers are the filters of the shares, each in its place
 abbrev pub AreFilters : List AtomOf → List FormulaNode → List ℕ → List ShareOf → Type 0
 AreFilters atoms steps [] [] = Unit {0}
 AreFilters atoms steps (root ∷ roots) (share ∷ shares) = IsFilter atoms steps root (filter_of share)

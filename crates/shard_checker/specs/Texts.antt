@@ -20,7 +20,7 @@ use Rattle.shard_checker.specs.declared.text_error.TextError.TheVariants.{Text, 
 abbrev pub texts_view : List (Bor (List ℕ)) → List (List ℕ)
 texts_view texts = map (λ text. text.now) texts
 
--- ---- what isn't read
+-- ---- what is not read
 
 -- the fault of the text of this line
 abbrev pub fault_at : ℕ → Result Tree CertError → Option TextError
@@ -46,7 +46,7 @@ tree_in (Err fault) = []
 abbrev pub trees_in : List (List ℕ) → List Tree
 trees_in texts = flat_map (λ text. tree_in (certificate_of text)) texts
 
--- the first text that isn't read, with lines counted from 1, or otherwise the first reason to refuse the sharding
+-- the first text that is not read, with lines counted from 1, or otherwise the first reason to refuse the sharding
 abbrev pub text_refusal : EmptyTest → CatalogOf Expr → PlanOf → List (List ℕ) → Option TextError
 text_refusal is_empty catalog plan texts =
     first_text_error (text_fault 1 texts) (option_map Check (sharding_refusal is_empty catalog plan (trees_in texts)))
@@ -58,7 +58,7 @@ abbrev pub FindsText : {A : Type 0} → Option TextError → Result A TextError 
 FindsText fault (Ok value) = fault ≡ None
 FindsText fault (Err error) = fault ≡ Some error
 
--- the result is the refusal, or out of memory, which may come in place of any other result
+-- the result is the refusal, or out of memory, which may come instead of any other result
 abbrev pub ChecksText : {A : Type 0} → Option TextError → Result A TextError → Type 0
 ChecksText refusal (Ok value) = refusal ≡ None
 ChecksText refusal (Err error) = error ≢ Check OutOfMemory → refusal ≡ Some error

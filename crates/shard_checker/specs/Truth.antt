@@ -15,7 +15,7 @@ use Rattle.shard_checker.specs.Refusal.{Subject, subject_of, later}
 use Rattle.shard_checker.specs.declared.error.CheckError.{CheckError}
 use Rattle.shard_checker.specs.declared.error.CheckError.TheVariants.{BadIndex, NotEmpty, MayBeNull, NotOwner, SecondOwner}
 
--- the share of this number, which isn't the owner's, may take a row, and no such share has a smaller number
+-- the share with this number, which is not the owner's, may take a row, and no such share has a smaller number
 pub record IsLeastOther (shares : List ShareOf) (path : Path) (owner second : ℕ) : Type 0 where
   pub other : second ≢ owner
   pub may : may_take (share_in shares second) path ≡ true
@@ -65,6 +65,6 @@ IsWrong subject (Empty term) path node error = EmptyIsWrong subject path node (s
 IsWrong subject (NeverNull index) path node error =
     NeverNullIsWrong subject path node (slice_get subject.atoms index) error
 
--- what the error says about the certificate of the table of this number is true
+-- what the error says about the certificate of the table with this number is true
 abbrev pub CertificateIsWrong : ℕ → Table → List ShareOf → Tree → CheckError → Type 0
 CertificateIsWrong number table shares tree error = IsWrong (subject_of number table.columns shares) tree [] 0 error

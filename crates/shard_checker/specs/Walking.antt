@@ -1,5 +1,5 @@
 -- The check of a certificate node by node, in the order in which it is written. What still follows is determined by the
--- path: after a leaf, its last entry that isn't null has the next of its values. Certificates are specific to this
+-- path: after a leaf, its last entry that is not null has the next of its values. Certificates are specific to this
 -- project, and no section of PostgreSQL's documentation describes them.
 use Rattle.std.specs.Prelude.{◌≡◌, ◌≢◌, ℕ, ◌+◌, Bool, true, false, List, [], ◌∷◌, ◌++◌, length, Option, Some, None, Result, Ok, Err, slice_get}
 use Rattle.std.specs.Option.{option_map}
@@ -90,7 +90,7 @@ walk is_empty subject (first ∷ nodes) (Some path) node =
 abbrev pub walk_from : EmptyTest → Subject → List Node → Place → Option CheckError
 walk_from is_empty subject nodes place = earliest place.due (walk is_empty subject nodes place.path place.node)
 
--- the first refusal in the nodes of the certificate of the table of this number
+-- the first refusal in the nodes of the certificate of the table with this number
 abbrev pub nodes_refusal : EmptyTest → ℕ → Table → List ShareOf → List Node → Option CheckError
 nodes_refusal is_empty number table shares nodes =
     walk is_empty (subject_of number table.columns shares) nodes (Some []) 0
@@ -138,7 +138,7 @@ pub record Stops (is_empty : EmptyTest) (subject : Subject) (nodes : List Node) 
   where
     pub each : (more : List Node) → walk_from is_empty subject (nodes ++ more) old ≡ Some error
 
--- the result of a walk over nodes from one place to another; out of memory may come in place of any other error
+-- the result of a walk over nodes from one place to another; out of memory may come instead of any other error
 abbrev pub Walks : {A : Type 0} → EmptyTest → Subject → List Node → Place → Place → Result A CheckError → Type 0
 Walks is_empty subject nodes old new (Ok value) = Passes is_empty subject nodes old [] new
 Walks is_empty subject nodes old new (Err error) = error ≢ OutOfMemory → Stops is_empty subject nodes old error

@@ -15,7 +15,7 @@ use crate::values::is_about;
 use filter_tree::{Atom, ColType, Column, Literal, Term};
 use std::alloc::{AllocError, Allocator, Global};
 
-/// A value that isn't null.
+/// A value that is not null.
 #[derive(Clone, Copy)]
 pub enum Tried<'a> {
     Int(i64),

@@ -23,7 +23,7 @@ pub fn kind_at(columns: &[Column], column: usize) -> ColType
     }
 }
 
-/// The greatest remainder by a divisor that isn't 0.
+/// The greatest remainder by a divisor that is not 0.
 fn greatest_remainder(divisor: i64) -> i64
     ensures remainder { result ≡ spec.greatest_remainder divisor }
     ensures natural { pos 0 ≤ℤ result }

@@ -40,7 +40,7 @@ pub fn says_null<A: Allocator>(column: usize, atom: &Atom<A>, value: Tri) -> boo
     tells_null(atom, value) && atom.term().column() == column
 }
 
-/// Whether the atom with this value says that the column isn't null.
+/// Whether the atom with this value says that the column is not null.
 pub fn says_present<A: Allocator>(column: usize, atom: &Atom<A>, value: Tri) -> bool
     ensures { result ≡ spec.says_present column (atom_view atom.now) value }
 {

@@ -28,7 +28,7 @@ pub fn is_taken(subscriptions: &[Subscription], publication: usize) -> bool
     false
 }
 
-/// The first of insert, update, delete and truncate that isn't published.
+/// The first of insert, update, delete and truncate that is not published.
 fn missing_operation(publishes: Operations) -> Option<Operation>
     ensures { result ≡ spec.missing_operation publishes }
 {

@@ -162,7 +162,7 @@ fn check_sharding<A: Allocator>(
 /// replica identity does not distinguish its rows; a column that a filter names and the replica identity lacks, by
 /// subscribed publications, their entries, and columns in the order of first appearance; a number of certificates that
 /// is not the number of tables; and then the error of the first certificate that has one, as `check_one` returns it,
-/// with the table's number. `OutOfMemory` may come in place of these, but not of the first two (`memory`). What an
+/// with the table's number. `OutOfMemory` may come instead of these, but not of the first two (`memory`). What an
 /// error says about what it names is true (`wrong`). On an error the catalog and the plan are dropped.
 ///
 /// PostgreSQL 15, "Logical Replication", 31.3 Row Filters.

@@ -129,7 +129,7 @@ fn go_back<'a, A: Allocator>(subject: &Subject<'a, A>, walk: &mut Walk<'a, A>) -
     Some((before.number, value))
 }
 
-/// Leaves a node that isn't a split: goes to the next branch of the last split that has one, or ends if none has.
+/// Leaves a node that is not a split: goes to the next branch of the last split that has one, or ends if none has.
 #[tactic(auto, using(crate::proofs::WalkInvariantLemmas::leaving))]
 fn leave<'a, A: Allocator>(
     subject: &Subject<'a, A>,

@@ -146,7 +146,7 @@ leads_asked checked most (event ∷ events) world last leads all =
     leads_asked checked most events leads.1 last leads.3
     (step_asked checked most world event.0 event.1 leads.0 leads.1 leads.2 all)
 
--- a position that counts this number of commits, and isn't 0, is where the last of them ends
+-- a position that counts this number of commits, and is not 0, is where the last of them ends
 pub end_of_count : (position count : ℕ) → IsEnd position → commits_before position ≡ count → 1 ≤ position
     → position ≡ end_lsn_of count
 end_of_count position count ends counts some = elim ends [

@@ -265,7 +265,7 @@ module _ (source : StreamSource) (published : IsPublished source.checked source.
       ∙ ap (λ connection. (open_step source now (Deliver (sent_to source connection)) peer c).1) is
 
   -- after the keepalive the whole stream reports the end of the log
-  -- it counts all commits, and isn't 0
+  -- it counts all commits, and is not 0
   pub record CountsAll (position : ℕ) : Type 0 where
     pub all : length (log_in source) ≤ commits_before position
     pub some : 1 ≤ position

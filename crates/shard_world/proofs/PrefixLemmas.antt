@@ -109,7 +109,7 @@ module _ {X : Type 0} (frame : X → Frame) where
       begin_with (nat_le (length (framed (frame x))) count) x (whole_by frame (count - length (framed (frame x))) xs)
       xs (whole_begin (count - length (framed (frame x))) xs)
 
-  -- what is whole in this number of bytes and more, and wasn't before
+  -- what is whole in this number of bytes and more, and was not before
   abbrev pub new_in : List X → ℕ → ℕ → List X
   new_in all done more = drop (length (whole_by frame done all)) (whole_by frame (done + more) all)
 

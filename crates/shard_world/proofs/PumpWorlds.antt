@@ -63,7 +63,7 @@ end_of_log before after subscriber position reaches at there most events world i
     at (subst (λ (c : CheckedOf). subscriber < length c.plan) (sym end.checked) there) most end.events end.world
     end.is ∙ end.position_is
 
--- a position that counts all commits, and isn't 0
+-- a position that counts all commits, and is not 0
 record IsPast (source : StreamSource) (peer : Peer) : Type 0 where
   all : length (log_in source) ≤ commits_before (position_now source peer)
   some : 1 ≤ position_now source peer

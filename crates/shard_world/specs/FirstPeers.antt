@@ -8,7 +8,7 @@ use Rattle.test_subscriber.specs.Subscribers.{first_machine, sub_machine, sub_pu
 use Rattle.shard_world.specs.Joined.{PeerOf}
 use Rattle.shard_world.specs.World.{publication_name}
 
--- the names of the publications of these numbers
+-- the names of the publications with these numbers
 abbrev pub names_of : List (PublicationOf Expr) → List ℕ → List (List ℕ)
 names_of publications numbers = map (λ number. publication_name (slice_get publications number)) numbers
 

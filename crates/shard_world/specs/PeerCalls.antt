@@ -89,8 +89,8 @@ HasSmallCount answer = Unit {0}
 
 -- ---- a call that memory may be refused to
 
--- its step is made, with this answer, or the connection can't continue; either way the book and the connection keep the
--- catalog
+-- its step is made, with this answer, or the connection cannot continue; either way the book and the connection keep
+-- the catalog
 pub record Tries (checked : CheckedOf) (now : ℕ) (event : PeerEvent) (before after : Book) (old : PeerOf)
     (result : Result Answer Halted) (new : PeerOf) : Type 0 where
   pub made : IfOk result (λ answer. MakesFromEach checked now event before after old new answer)

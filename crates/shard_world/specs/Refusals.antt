@@ -54,7 +54,7 @@ abbrev pub ReportsAreAnswered : Type 0
 ReportsAreAnswered = (case : Case) (slots : List Slot) (old : PeerOf) (link : Link) → MatchesPeer case slots old
     → old.link ≡ Some link → IsAnswered (status_answer (sub_machine old.subscriber).phase)
 
--- ---- a subscriber without a connection, whose connection can't be opened, stays without one
+-- ---- a subscriber without a connection, whose connection cannot be opened, stays without one
 
 -- what exists matches what the world's step leaves if memory is refused
 pub record StepBreaks (case : Case) (event : PeerEvent) (slots : List Slot) (code : PeerOf) : Type 0 where

@@ -30,7 +30,7 @@ abbrev pub FoundBy : Subscriber → ℕ → List (List Datum) → Type 0
 FoundBy subscriber table rows =
     AreFound ((sub_machine subscriber).rows (oid_of table)) (sub_listed subscriber (oid_of table)) rows
 
--- what is seen of the subscriber of this number
+-- what is seen of the subscriber with this number
 pub record IsSeen (book : Book) (tables number : ℕ) (subscriber : Subscriber) (shown : SubscriberView) : Type 0 where
   pub position_is : shown.position ≡ (sub_machine subscriber).position
   pub applied_is : shown.applied ≡ commits_before shown.position

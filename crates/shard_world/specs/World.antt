@@ -168,7 +168,7 @@ hear_up now session (Says status) =
           session.moves ++ replies_to status.wants_reply now;
     }
 
--- what is whole in these bytes and wasn't in those heard before
+-- what is whole in these bytes and was not in those heard before
 abbrev pub newly : StreamSource → Peer → Connection → ℕ → List Up
 newly source peer c more =
     drop (length (whole_up source.checked source.number c.heard (ups_of peer c)))
@@ -330,7 +330,7 @@ pub record MovesPeer (checked : CheckedOf) (world : World) (subscriber now : ℕ
   pub answer_is : answer ≡ (step_in checked world subscriber now event).0
   pub next_is : next ≡ with_peer world subscriber (step_in checked world subscriber now event).1
 
--- memory is allocated if the step has something to do, and so not in place of these answers
+-- memory is allocated if the step has something to do, and so not instead of these answers
 abbrev pub AsksMemory : Answer → Type 0
 AsksMemory AlreadyOpen = ⊥
 AsksMemory NotOpen = ⊥

@@ -27,7 +27,7 @@ world_peers world = world.peers.items
 
 -- ---- which world it matches
 
--- the subscriber of this number exists, and matches that of the world
+-- the subscriber with this number exists, and matches that of the world
 abbrev pub PeerAt : StreamSource → List Slot → w.Peer → Option PeerOf → Type 0
 PeerAt source slots peer None = ⊥
 PeerAt source slots peer (Some code) = PeerIs source slots code peer

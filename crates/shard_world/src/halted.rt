@@ -4,7 +4,7 @@ use copy_both::LinkFault;
 use std::alloc::AllocError;
 use test_subscriber::SubFault;
 
-/// Memory was refused in the middle of a step on a connection, which can't continue.
+/// Memory was refused in the middle of a step on a connection, which cannot continue.
 #[derive(Clone, Copy, Debug, PartialEq, Eq)]
 pub(crate) struct Halted;
 

@@ -58,10 +58,11 @@ pub fn subscribers_are_heard()
 
 /// A law about a subscriber and the publisher's end of its connection, by what their calls leave (`Subscriber` of
 /// `test_subscriber`, `Link` of `copy_both`). If they match a subscriber of a world that events lead to, a call that
-/// doesn't run out of memory leaves what matches that subscriber after the step of the world, and returns what the step
-/// answers: when the subscriber opens a connection (`opened`), any first bytes of what it sent are heard (`heard`), the
-/// next commit is taken (`taken`), a keepalive is sent (`kept`), any first bytes of what waits are delivered to the
-/// subscriber (`delivered`), it reports its position (`reported`), and the connection is lost (`lost`).
+/// does not run out of memory leaves what matches that subscriber after the step of the world, and returns what the
+/// step answers: when the subscriber opens a connection (`opened`), any first bytes of what it sent are heard
+/// (`heard`), the next commit is taken (`taken`), a keepalive is sent (`kept`), any first bytes of what waits are
+/// delivered to the subscriber (`delivered`), it reports its position (`reported`), and the connection is lost
+/// (`lost`).
 ///
 /// PostgreSQL 15, 31.2. Subscription, and 55.4. Streaming Replication Protocol.
 pub fn connections_step_as_the_world()
@@ -76,7 +77,7 @@ pub fn connections_step_as_the_world()
 
 /// A law about a subscriber and the publisher's end of its connection, if memory is refused to a call. While they match
 /// a subscriber of a world that events lead to, no call returns a fault (`opens`, `hears`, `takes`, `keeps`,
-/// `delivers`, `reports`), so that an error means that memory was refused. A subscriber that can't open a connection
+/// `delivers`, `reports`), so that an error means that memory was refused. A subscriber that cannot open a connection
 /// stays without one (`stays`, `opened`). A call on a connection leaves the position, the rows and the slot as the
 /// world has them after some of the bytes that were to be heard (`heard`) or delivered (`delivered`), and otherwise as
 /// they were (`taken`, `kept`, `reported`). When the connection is then lost, what is left matches what the step of the

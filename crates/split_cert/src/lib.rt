@@ -1,4 +1,4 @@
-//! Certificates that a table is sharded well, as trees, and their text.
+//! Certificates that a table is sharded correctly, as trees, and their text.
 //!
 //! A certificate splits the rows of a table by the values of atoms of the filters, until it can name the one subscriber
 //! whose filter a row passes.

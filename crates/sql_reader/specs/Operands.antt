@@ -196,7 +196,7 @@ tested forms truth_test asked_part =
 
 -- ---- parts of the code
 
--- The data above for which an operand of the code stands.
+-- The view of an operand of the code as the data above.
 abbrev pub operand_view : Operand → OperandOf Expr
 operand_view (p.Term term kind) = OfTerm term kind
 operand_view (p.Literal place literal) = OfLiteral place (constant_view literal)

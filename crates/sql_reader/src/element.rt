@@ -86,7 +86,7 @@ fn column_element(
     Ok(())
 }
 
-/// Makes the column of this number NOT NULL.
+/// Makes the column with this number NOT NULL.
 #[tactic(auto, using(crate::proofs::Required::requires_column))]
 fn require(columns: &mut Vec<Column>, number: usize)
     ensures { columns.new.items ≡ spec.required columns.old.items number }

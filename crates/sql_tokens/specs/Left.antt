@@ -21,7 +21,7 @@ left tokens = at (text_of tokens) tokens.place
 abbrev pub lexeme : List ℕ → Token → Lexeme
 lexeme text token = record { kind = token.kind; place = token.place; text = take token.length (drop token.place text) }
 
--- the tokens that a result stands for; `rest` are the tokens after it
+-- the tokens of a result; `rest` are the tokens after it
 abbrev pub answered : List ℕ → Result (Option Token) TokenFault → Lexed → Lexed
 answered text (Ok None) rest = End (length text)
 answered text (Ok (Some token)) rest = Then (lexeme text token) rest

@@ -7,7 +7,7 @@ use Rattle.sql_tokens.specs.declared.kinds.Piece.{Piece}
 use Rattle.sql_tokens.specs.declared.kinds.Piece.TheVariants.{Whole, Faulty}
 use Rattle.sql_tokens.specs.Comments.{longer}
 
--- What is between two quotes; each two quotes side by side stand for one.
+-- What is between two quotes; each two adjacent quotes are one.
 unfoldable pub undoubled : ℕ → List ℕ → List ℕ
 undoubled quote (b ∷ c ∷ bytes) = if b == quote && c == quote then
     quote ∷ undoubled quote bytes else b ∷ undoubled quote (c ∷ bytes)
@@ -24,7 +24,7 @@ inner_len quote (b ∷ c ∷ bytes) =
 inner_len quote (b ∷ []) = if b == 0 then None else (if b == quote then Some 0 else None)
 inner_len quote [] = None
 
--- A name of `n` bytes between its quotes, or of `meant` bytes once doubled quotes are undone. It isn't empty, and
+-- A name of `n` bytes between its quotes, or of `meant` bytes once doubled quotes are undone. It is not empty, and
 -- `meant` is at most 63.
 abbrev pub name_piece : ℕ → ℕ → Piece
 name_piece n meant = if n == 0 then

@@ -111,7 +111,7 @@ module _ (checked : CheckedOf) (transactions : List Transaction) (subscriber beg
   good sent machine inside =
       inside_follows checked transactions subscriber begin position outer sent tables machine follows inside
 
-  -- the Relation of a table that wasn't announced
+  -- the Relation of a table that was not announced
   new_relation : (sent : List Bool) (number : ℕ) (found : Option Table) (machine : Machine)
       → slice_get checked.catalog.tables number ≡ found → number < length sent
       → Inside checked subscriber begin outer sent tables machine

@@ -76,7 +76,7 @@ kinds_back table number (column ∷ columns) =
     ap (λ kind. with_kind kind (kinds_of (columns_from table (number + 1) columns))) (kind_back column.kind)
     ∙ ap (λ others. with_kind (Some column.kind) others) (kinds_back table (number + 1) columns)
 
--- what a subscriber keeps of the table of this number
+-- what a subscriber keeps of the table with this number
 abbrev pub shape_for : ℕ → Table → TableShape
 shape_for number table = shaped (relation_of number table) (back.kinds_of table.columns)
 

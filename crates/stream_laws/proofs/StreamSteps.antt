@@ -78,7 +78,7 @@ first_number done = omega arith
 count_of_end : (done : ℕ) → commits_before (end_lsn_of (done + 1)) ≡ done + 1
 count_of_end done = omega arith
 
--- where a commit ends that the position doesn't count
+-- where a commit ends that the position does not count
 ends_there : (position done : ℕ) → commits_before position ≤ done → max position (end_lsn_of (done + 1))
     ≡ end_lsn_of (done + 1)
 ends_there position done h = omega (arith, h)

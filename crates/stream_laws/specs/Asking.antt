@@ -39,7 +39,7 @@ CommandsAreRead = (slot : List ℕ) (names : List (List ℕ)) (position : ℕ) �
 
 -- ---- the answer
 
--- The subscription of this number is found by its name, and its publications, at least one, are the catalog's.
+-- The subscription with this number is found by its name, and its publications, at least one, are the catalog's.
 pub record CanAsk (catalog : CatalogOf Expr) (subscriber : ℕ) (subscription : Subscription) : Type 0 where
   pub is_there : slice_get catalog.subscriptions subscriber ≡ Some subscription
   pub found : find_slot subscription.name catalog.subscriptions ≡ Some subscriber

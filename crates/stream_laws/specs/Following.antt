@@ -53,7 +53,7 @@ abbrev pub flagged_in : Option Table → List ℕ
 flagged_in None = []
 flagged_in (Some table) = flagged_from 0 (columns_from table 0 table.columns)
 
--- the values by which a subscriber finds a row of the table of this number
+-- the values by which a subscriber finds a row of the table with this number
 abbrev pub own_key : CheckedOf → ℕ → List Datum → List Datum
 own_key checked table row = values_at (flagged_in (slice_get checked.catalog.tables table)) row
 
@@ -68,7 +68,7 @@ KeepsRelations checked machine = (number : ℕ) (table : Table) (shape : TableSh
     → slice_get checked.catalog.tables number ≡ Some table
     → machine.kept (oid_of number) ≡ Some shape → shape_of (relation_of number table) ≡ Some shape
 
--- The subscriber of this number is at this position, and has its shard of the tables after the commits that the
+-- The subscriber with this number is at this position, and has its shard of the tables after the commits that the
 -- position counts.
 pub record Follows (checked : CheckedOf) (transactions : List Transaction) (subscriber position : ℕ)
     (machine : Machine) : Type 0 where
@@ -89,7 +89,7 @@ pub record IsPublished (checked : CheckedOf) (transactions : List Transaction) :
 abbrev pub log_of : CheckedOf → List Transaction → List CommitOf
 log_of checked transactions = entries_from (setting_in checked) no_rows 1 transactions
 
--- what a connection of the subscriber of this number sends that starts at this position and makes these moves
+-- what a connection of the subscriber with this number sends that starts at this position and makes these moves
 abbrev pub items_from : CheckedOf → List Transaction → ℕ → ℕ → List Move → List StreamItem
 items_from checked transactions subscriber position moves =
     stream_items (telling_of checked) (log_of checked transactions) subscriber (length checked.catalog.tables) position

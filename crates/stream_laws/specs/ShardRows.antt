@@ -11,7 +11,7 @@ pub record FindsRows (key_of : List Datum → List Datum) (found : List Datum �
   pub keyed : (key row : List Datum) → found key ≡ Some row → key_of row ≡ key
   pub each : (row : List Datum) → is_row (found (key_of row)) row ≡ rows row
 
--- the row is in the table, and passes to the subscriber of this number
+-- the row is in the table, and passes to the subscriber with this number
 abbrev pub in_shard : Setting → ℕ → Tables → ℕ → List Datum → Bool
 in_shard setting subscriber tables table row =
     holds setting.keys tables table row && setting.passes subscriber table row

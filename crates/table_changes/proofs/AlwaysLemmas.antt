@@ -54,7 +54,7 @@ always_of setting tables (Truncate numbers) fault own is others = is
 
 -- ---- lists
 
--- the command of this number has the fault; the first one has the number `first`
+-- the command with this number has the fault; the first one has the number `first`
 record HasFrom (setting : Setting) (commands : List Command) (first number : ℕ) (fault : CommandFault) : Type 0 where
   place : ℕ
   command : Command

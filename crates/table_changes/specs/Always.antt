@@ -1,4 +1,4 @@
--- Faults that a command has, whatever rows there are: no such table, and a row that doesn't fit its table: PostgreSQL
+-- Faults that a command has, whatever rows there are: no such table, and a row that does not fit its table: PostgreSQL
 -- 15, Chapter 6 Data Manipulation, and SQL Commands, TRUNCATE.
 use Rattle.std.specs.Prelude.{◌≡◌, ℕ, ◌+◌, Bool, true, false, List, Some, slice_get}
 use Rattle.table_changes.specs.Commands.{Command, CommandFault, NoTable, Unfit, NoSuchRow, DuplicateKey, fault_of, first_fault}
@@ -12,7 +12,7 @@ is_of_command (Unfit fault) = true
 is_of_command NoSuchRow = false
 is_of_command DuplicateKey = false
 
--- The command of this number, from 1, has the fault, whatever rows there are.
+-- The command with this number, from 1, has the fault, whatever rows there are.
 pub record HasAlways (setting : Setting) (commands : List Command) (number : ℕ) (fault : CommandFault) : Type 0 where
   pub place : ℕ
   pub command : Command

@@ -51,9 +51,9 @@ abbrev pub all_known : Setting → List ℕ → Bool
 all_known setting [] = false
 all_known setting (table ∷ numbers) = list_all setting.known (table ∷ numbers)
 
--- The first fault of a command: no such table, also for TRUNCATE without any table; a row that doesn't fit; no row with
--- the key, also for each key that doesn't have the primary key's shape; and a value in a unique key that another row
--- has, which for UPDATE isn't the row that is replaced.
+-- The first fault of a command: no such table, also for TRUNCATE without any table; a row that does not fit; no row
+-- with the key, also for each key that does not have the primary key's shape; and a value in a unique key that another
+-- row has, which for UPDATE is not the row that is replaced.
 abbrev pub fault_of : Setting → Tables → Command → Option CommandFault
 fault_of setting tables (Insert table row) =
     unless (setting.known table) NoTable (unless_unfit (setting.fault table row)

@@ -15,7 +15,7 @@ abbrev pub value_in : Option UniqueKey → List Datum → Option (List Datum)
 value_in None row = None
 value_in (Some key) row = key row
 
--- the row's value in the table's unique key of this number; none in a key that the table doesn't have
+-- the row's value in the table's unique key with this number; none in a key that the table does not have
 abbrev pub key_at : Keys → ℕ → ℕ → List Datum → Option (List Datum)
 key_at keys table number row = value_in (slice_get (keys table) number) row
 

@@ -58,7 +58,7 @@ stands_for table carries (Update part new) = r.Update table part new
 stands_for table carries (Delete part) = r.Delete table part
 stands_for table carries (Truncate numbers) = r.Truncate (filter carries numbers)
 
--- what the subscriber of this number gets of a change, as a change
+-- what the subscriber with this number gets of a change, as a change
 abbrev pub got : Setting → ℕ → r.ChangeOf → Option r.ChangeOf
 got setting subscriber change =
     option_map (stands_for (changed_table change) (setting.carries subscriber))

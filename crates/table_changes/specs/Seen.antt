@@ -32,7 +32,7 @@ abbrev pub seen_tables : List ℕ → Option Seen
 seen_tables [] = None
 seen_tables (table ∷ numbers) = Some (Truncate (table ∷ numbers))
 
--- what the subscriber of this number sees of a command on tables, if anything
+-- what the subscriber with this number sees of a command on tables, if anything
 abbrev pub seen_of : Setting → ℕ → Tables → c.Command → Option Seen
 seen_of setting subscriber tables (c.Insert table row) =
     seen_rows table None (passing (setting.passes subscriber table) (Some row))

@@ -40,7 +40,7 @@ abbrev pub without : Keys → Tables → ℕ → Option (List Datum) → Tables
 without keys tables table None = tables
 without keys tables table (Some row) = take_out keys tables table row
 
--- without any row of the tables of these numbers
+-- without any row of the tables with these numbers
 abbrev pub emptied : Tables → List ℕ → Tables
 emptied tables numbers other number value = if list_any (λ table. table == other) numbers then
     None else tables other number value

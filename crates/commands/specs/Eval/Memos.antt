@@ -32,7 +32,7 @@ pub record Knows (carriers : List CarrierOf) (row : List Datum) (memo : Memo) (s
   pub is : IsMemoOf (filters_of carriers) text_of memo
   pub located : IsLocated memo row said
 
--- So it is, and the filter of this number is that of one of them.
+-- So it is, and the filter with this number is that of one of them.
 pub record KnowsOne (filter : Option Expr) (number : ℕ) (row : List Datum) (memo : Memo) (said : Said) : Type 0 where
   pub carriers : List CarrierOf
   pub known : Knows carriers row memo said

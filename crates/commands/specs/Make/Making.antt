@@ -1,5 +1,5 @@
 -- What `make` answers: its input is a catalog, and a line is written for each of its tables, in order: a certificate of
--- the table, a row that shows that it is not split well, or that neither was found.
+-- the table, a row that shows that it is not sharded correctly, or that neither was found.
 use Rattle.std.specs.Prelude.{◌≡◌, ◌≢◌, ◌⊎◌, ℕ, ◌+◌, Bool, true, false, ◌&&◌, if◌then◌else◌, List, [], ◌∷◌, ◌++◌, length, Option, None, is_none, Result, Ok, codes}
 use Rattle.std.specs.Io.KnownBytes.{Appends}
 use Rattle.std.specs.List.{join_by}

@@ -37,7 +37,7 @@ fn push_owners(
     }
 }
 
-/// The line of a row that shows that the table of this number is not split well.
+/// The line of a row that shows that the table of this number is not sharded correctly.
 fn counter_line(
     alloc: Global,
     catalog: &Catalog,

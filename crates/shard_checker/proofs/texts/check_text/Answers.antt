@@ -68,7 +68,7 @@ returns-in_err-check_texts-clause-wrong c =
     (search rules) (search rules) (catalog_entries_known c.args.catalog)
     (c.check_texts.ensures.exact c.in_ok-read_texts.ensures)
 
--- a text isn't read
+-- a text is not read
 pub returns-in_err-read_texts-clause-exact : goal.returns-in_err-read_texts-clause-exact
 returns-in_err-read_texts-clause-exact c = λ test tells. search (rules, text_first)
 
