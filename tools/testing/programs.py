@@ -26,7 +26,7 @@ def prepare() -> None:
     """Makes sure that the program can be run, so that no run with a time limit has to build it first."""
     why = why_unusable()
     if why is not None:
-        raise RuntimeError(f"the program can't be run: {why}")
+        raise RuntimeError(f"the program cannot be run: {why}")
 
 
 def program() -> str:

@@ -99,7 +99,7 @@ PLANTS = [
           "fn next_connection(listener: &TcpListener) -> Option<TcpStream> {\n    if true { return None; }\n"),
     Plant("another error that is memory", "        CommitError::OutOfMemory => true,\n        _ => false,",
           "        CommitError::OutOfMemory => true,\n        CommitError::LogFull => true,\n        _ => false,"),
-    Plant("threads that can't start", "pub(crate) fn starts_threads<R: Threads>(rt: &R) -> bool {\n",
+    Plant("threads that cannot start", "pub(crate) fn starts_threads<R: Threads>(rt: &R) -> bool {\n",
           "pub(crate) fn starts_threads<R: Threads>(rt: &R) -> bool {\n    if true { return false; }\n"),
     Plant("a status as a number", "    let status = outcome(alloc, ending, writer);\n",
           "    if ending.is_err() { return 4; }\n    let status = outcome(alloc, ending, writer);\n"),

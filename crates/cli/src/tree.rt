@@ -11,7 +11,7 @@ use std::alloc::{AllocError, Global};
 const INPUT_HELP: &str =
     "The program reads standard input, whose parts are separated by lines that are exactly %%:
 eval reads a catalog and rows, show and make a catalog alone, check a catalog and certificates,
-simulate and serve a catalog, certificates and a script.
+simulate and serve a catalog, certificates and a script, publish a catalog, certificates and commands.
 A catalog is SQL: CREATE SCHEMA, TABLE, UNIQUE INDEX, PUBLICATION and SUBSCRIPTION, and ALTER TABLE .. REPLICA IDENTITY.
 
 Exit status:
@@ -22,14 +22,14 @@ Exit status:
   3  the input cannot be read, and a line says why
   4  cannot write the output
   5  out of memory
-pgshard serve --help describes serve.";
+pgshard serve --help and pgshard publish --help say more.";
 
 const SERVE_HELP: &str =
     "The program reads standard input, whose parts are separated by lines that are exactly %%:
 a catalog, the certificates of its tables, one on each line, and a script in which each step is COMMIT.
 If the sharding is sound, it listens on 127.0.0.1, prints listening PORT, and accepts the given number of connections.
 Each is served as soon as it is accepted, while one session commits the lists of the script, in order. A list that is
-refused is skipped. A client speaks the streaming replication protocol as it is after startup, from START_REPLICATION
+refused is skipped. A client speaks the streaming replication protocol without its startup, from START_REPLICATION
 on. The slots are the subscriptions of the catalog. A client that loses its connection can reconnect if there are more
 connections than subscriptions. When all connections have ended, the program compares what it answered to the session
 and sent to the connections with the log, and prints closed COMMITS CONNECTIONS. Standard error has a line for each
@@ -291,7 +291,7 @@ pub fn command<'a>(alloc: Global) -> Result<Command<'a>, AllocError>
     );
     Command::new(alloc, "pgshard")
         .about(
-            "pgshard 0.4.0 checks that the row filters of publications split PostgreSQL tables soundly over subscribers",
+            "pgshard 0.4.0 checks whether publications send each row of a table to exactly one subscriber",
         )
         .version("0.4.0")
         .propagate_version(true)

@@ -14,7 +14,7 @@ def findings_of(db: Database, listed: Sequence[Subscriber]) -> list[str]:
     waiting = [it for it, is_active in db.slots.items()
                if not is_active and it not in told and not COPYING.fullmatch(it)]
     return [*(remark for it in listed for remark in it.remarks),
-            *(f"nobody is connected to slot {it}, so the server keeps what it has not sent to it" for it in waiting)]
+            *(f"nobody is connected to slot {it}, so the server keeps its unsent changes" for it in waiting)]
 
 
 def status_with(status: int, findings: Sequence[str]) -> int:

@@ -59,7 +59,7 @@ def add_regions(
                 verdict.map = pictures.map_of(division)
     except TimeIsUp:
         session.stop()
-        verdict.remarks.append(f"to list its regions takes over {options.seconds:g} seconds; raise --seconds")
+        verdict.remarks.append(f"listing its regions takes over {options.seconds:g} seconds; raise --seconds")
 
 
 def judged_in_time(
@@ -84,7 +84,7 @@ def explain(verdict: Verdict, regions: Regions, options: Options) -> None:
                 return
             regions[verdict.table] = explaining.regions(verdict)
     except TimeIsUp:
-        verdict.remarks.append(f"to explain it takes over {options.seconds:g} seconds; raise --seconds")
+        verdict.remarks.append(f"explaining it takes over {options.seconds:g} seconds; raise --seconds")
 
 
 def purposes_of(options: Options, tables: Sequence[Shares]) -> dict[str, str]:

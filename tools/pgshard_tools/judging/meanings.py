@@ -141,7 +141,7 @@ class Meanings:
             self.values[sql] = json.loads(answer) if answer else None
         value = self.values[sql]
         if value is None:
-            raise Unread(written(raw), "the server fails at it, so the filter fails at each row")
+            raise Unread(written(raw), "the server cannot evaluate it, so the filter fails at each row")
         text: str | None = value[0]
         return text
 

@@ -73,7 +73,7 @@ def why_not_tried(tree: Any) -> str | None:
     """Returns why a rollback might not undo a statement, or None."""
     match kind_of(tree):
         case "TransactionStmt":
-            return ("--with runs the file in one transaction, which is rolled back, so the file can't begin or end "
+            return ("--with runs the file in one transaction, which is rolled back, so the file cannot begin or end "
                     "one; try it without BEGIN, COMMIT, ROLLBACK and SAVEPOINT")
         case "CopyStmt":
             return "COPY has data or files outside of the database, which --with leaves alone; try the file without it"

@@ -97,7 +97,7 @@ def made_of(output: str, at: int, table: str, subscribers: Sequence[str]) -> tup
         rf"|counter {name} (?P<row>{ROW}) owners (?:none|(?P<owners>{one}(?:,{one})+))"
         rf"|(?P<word>unknown|too large) {name})\n").match(output, at)
     if found is None:
-        raise Fault(NO_PROGRAM, f"pgshard make answers something else of {table}: {output[at:at + 200]}")
+        raise Fault(NO_PROGRAM, f"unexpected output of pgshard make for {table}: {output[at:at + 200]}")
     row = re.findall(VALUE, found["row"]) if found["row"] else None
     owners = re.findall(one, found["owners"]) if found["owners"] else []
     return Made(found["certificate"], row, owners, found["word"] or ""), found.end()

@@ -130,7 +130,7 @@ def advice(verdict: Verdict) -> str:
     if "replica identity" in reasons:
         return "; ALTER TABLE .. REPLICA IDENTITY FULL, or a filter by the columns of the identity, comes first"
     if "does not publish" in reasons or "takes publication" in reasons:
-        return "; mend this first, and ask again"
+        return "; fix this first, and try again"
     return "; write the filters with fewer conditions, or by one column, and ask again"
 
 

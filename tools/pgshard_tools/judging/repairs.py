@@ -99,7 +99,7 @@ def why_fixed(db: Database, shares: Shares, name: str) -> str | None:
             return f"publication {taken} is taken by {' and '.join([name, *others])}, and each needs one of its own"
         if publication["all"] or shares.table["schema"] in publication["schemas"]:
             form = "FOR ALL TABLES" if publication["all"] else "FOR TABLES IN SCHEMA"
-            return f"publication {taken} is {form}, which has no filters; one FOR TABLE has them"
+            return f"publication {taken} is {form}, which has no filters; FOR TABLE allows them"
         if db.entry(publication, shares.table["oid"]) is None:
             return (f"publication {taken} has the table by a partitioned table above it; one FOR TABLE of itself has "
                     "filters")

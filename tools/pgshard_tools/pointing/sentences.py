@@ -32,7 +32,7 @@ NODES = {
 CLOSINGS = {
     "CountDiffers": "the number of commits in the log is not the number that was answered",
     "ReceiptMissing": "a commit in the log is not one that was answered",
-    "ReadingWrong": "a row was read that no commit left",
+    "ReadingWrong": "a reading differs from what the commits left",
     "TakenDiffers": "a connection took commits other than those of the log",
     "StartLate": "a stream started after a commit that its slot was never sent",
 }

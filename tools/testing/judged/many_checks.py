@@ -44,10 +44,10 @@ TIME public.orders: sound -> NOT SOUND
         region IS NULL -> nobody, as (0, NULL)
 """),
     ("SELECT FROM pg_create_logical_replication_slot('tokyo', 'pgoutput')", """\
-TIME nobody is connected to slot tokyo, so the server keeps what it has not sent to it
+TIME nobody is connected to slot tokyo, so the server keeps its unsent changes
 """),
     ("SELECT pg_drop_replication_slot('tokyo')", """\
-TIME no longer: nobody is connected to slot tokyo, so the server keeps what it has not sent to it
+TIME no longer: nobody is connected to slot tokyo, so the server keeps its unsent changes
 """),
     ("CREATE PUBLICATION nowhere FOR TABLE orders WHERE (region IS NULL)", """\
 TIME public.orders: NOT SOUND -> sound

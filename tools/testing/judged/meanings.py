@@ -62,7 +62,7 @@ MEANINGS = [
         CREATE TABLE halves (id integer PRIMARY KEY);
         CREATE PUBLICATION low FOR TABLE sums WHERE (id < 2 * 50), halves WHERE (id < 1 / 0);
         CREATE PUBLICATION high FOR TABLE sums WHERE (id >= abs(-100)), halves WHERE (id >= 1 / 0);
-    """, {"sums": "sound", "halves": "not read"}, told=["the server fails at it, so the filter fails at each row"]),
+    """, {"sums": "sound", "halves": "not read"}, told=["the server cannot evaluate it, so the filter fails at each row"]),
     # Ordered rows, the greatest and the least.
     Case("rows_in_order", """
         CREATE TABLE pages (book integer NOT NULL, page integer NOT NULL, PRIMARY KEY (book, page));

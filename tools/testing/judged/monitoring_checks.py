@@ -88,5 +88,5 @@ def check_metrics(tally: Tally, server: Server) -> None:
                 'pgshard_tables{database="monitored",answer="not_sound"} 1', "pgshard_judge_status 1"):
             tally.check(f"a line for Prometheus: {line}", line if line in text.split("\n") else text, line)
         nowhere = judge(*server.words("monitored"), "--prometheus", f"{folder}/none/file").split("\n")
-        tally.check("a file that can't be written", (nowhere[0].split(":")[:2], nowhere[-2]), (
+        tally.check("a file that cannot be written", (nowhere[0].split(":")[:2], nowhere[-2]), (
             ["judge", f" cannot write {folder}/none/file"], "status 2"))

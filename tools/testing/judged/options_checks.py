@@ -25,7 +25,7 @@ SLOTS = """
     SELECT FROM pg_create_logical_replication_slot('london', 'pgoutput');
     SELECT FROM pg_create_logical_replication_slot('tokyo', 'pgoutput');
 """
-WAITING = "nobody is connected to slot {}, so the server keeps what it has not sent to it"
+WAITING = "nobody is connected to slot {}, so the server keeps its unsent changes"
 LONDON = """
     CREATE TABLE orders (id integer PRIMARY KEY, region integer);
     CREATE TABLE elsewhere.unrelated (id integer);

@@ -88,8 +88,8 @@ REPAIRED = [
              why="b would have to lose rows, but publication p is taken by b and a, and each needs one of its own; "
                  "use --keep b to leave them there"),
     Repaired("two_of_all", T + "CREATE PUBLICATION p FOR ALL TABLES; CREATE PUBLICATION q FOR TABLES IN SCHEMA public;",
-             why="q would have to lose rows, but publication q is FOR TABLES IN SCHEMA, which has no filters; one FOR "
-                 "TABLE has them; use --keep q to leave them there"),
+             why="q would have to lose rows, but publication q is FOR TABLES IN SCHEMA, which has no filters; FOR "
+                 "TABLE allows them; use --keep q to leave them there"),
     Repaired("identity", """
         CREATE TABLE t (id integer PRIMARY KEY, region integer);
         CREATE PUBLICATION p FOR TABLE t WHERE (region < 5);

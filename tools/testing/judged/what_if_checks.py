@@ -42,11 +42,11 @@ EACH = "each publication counts as a subscriber of its own; -v subscriptions='..
 # Migrations that are refused, each with the message after the file's name.
 REFUSED = {
     "BEGIN;\nSELECT 1;\nCOMMIT;":
-        "1: --with runs the file in one transaction, which is rolled back, so the file can't begin or end one; try it "
-        "without BEGIN, COMMIT, ROLLBACK and SAVEPOINT",
+        "1: --with runs the file in one transaction, which is rolled back, so the file cannot begin or end one; try "
+        "it without BEGIN, COMMIT, ROLLBACK and SAVEPOINT",
     "SELECT 1;\n\n/* all at once */ PREPARE TRANSACTION 'x';":
-        "3: --with runs the file in one transaction, which is rolled back, so the file can't begin or end one; try it "
-        "without BEGIN, COMMIT, ROLLBACK and SAVEPOINT",
+        "3: --with runs the file in one transaction, which is rolled back, so the file cannot begin or end one; try "
+        "it without BEGIN, COMMIT, ROLLBACK and SAVEPOINT",
     "SELECT 1;\nCREATE INDEX CONCURRENTLY ON orders (region);":
         "2: CREATE INDEX CONCURRENTLY cannot run inside a transaction block; --with runs the file in one, which is "
         "rolled back, so try it without this statement",
