@@ -27,14 +27,15 @@ COMMENTED = re.compile(r"^ *(?://|#\[).*$", re.M)
 @dataclass
 class Item:
     """A type, a trait or a contract: its lines; the words that may be names of types and of definitions; its type
-    parameters with their trait bounds; and its premises, that is, what a contract requires, or what holds of each value
-    of a type because of its ghost fields and the invariant of its view."""
+    parameters with their trait bounds; its premises, that is, what a contract requires, or what holds of each value of
+    a type because of its ghost fields and the invariant of its view; and the words of what a contract ensures."""
 
     lines: list[str]
     types: list[str]
     names: list[str]
     generics: dict[str, list[str]] = field(default_factory=dict)
     premises: list[str] = field(default_factory=list)
+    ensured: list[str] = field(default_factory=list)
 
 
 @dataclass
@@ -163,30 +164,37 @@ def model(code: Code, name: str) -> list[str]:
 
 def contract(path: Path, name: str, clauses: tuple[str, ...]) -> Item | None:
     """Returns the function with this name: its comment, its first lines with the types of its parameters, everything
-    that it requires, and these clauses of what it ensures, or all of them if none is named."""
+    that it requires, and these clauses of what it ensures, or all of them if none is named. A clause that it does not
+    have is an error."""
     code = read(path)
     for number, line in enumerate(code.lines):
         match = CALL.match(line)
         if match is None or match[1] != name:
             continue
-        head = code.lines[documented(code.lines, number):number]
-        lines = [it for it in head if "#[" not in it]
         text = "\n".join(code.lines[number:])
         first = CLAUSE.search(text)
-        head_text = text[:first.start()]
-        lines.extend(head_text.splitlines())
-        said = [
-            clause for kind, label, clause in clauses_of(text, first.start())
-            if kind == "requires" or not clauses or label in clauses]
-        lines.extend(it for clause in said for it in clause.splitlines())
-        facts = "\n".join(clause.split("{", 1)[1] for clause in said)
-        parameters = {**generics(impl_head(code, number)), **generics(head_text)}
-        bound = bound_in(facts) | set(PARAMETER.findall(head_text)) | {"result", "self"}
-        given = head_text.split("->")[0]
-        types = [it for it in re.findall(r"\b[A-Z]\w*", given[given.find("("):]) if it not in parameters]
-        asked = [premise(clause) for clause in said if clause.lstrip().startswith("requires")]
-        return Item(lines, types, names_in(facts, bound), parameters, asked)
+        head = code.lines[documented(code.lines, number):number]
+        found = clauses_of(text, first.start())
+        for label in set(clauses) - {label for kind, label, _ in found if kind == "ensures"}:
+            raise LookupError(f"{path.name}: {name} ensures no clause {label}")
+        said = [it for it in found if it[0] == "requires" or not clauses or it[1] in clauses]
+        parameters = {**generics(impl_head(code, number)), **generics(text[:first.start()])}
+        return contracted([it for it in head if "#[" not in it], text[:first.start()], said, parameters)
     return None
+
+
+def contracted(
+    comment: list[str], head: str, said: list[tuple[str, str | None, str]], parameters: dict[str, list[str]],
+) -> Item:
+    """Returns a contract with this comment, these first lines and these clauses."""
+    lines = [*comment, *head.splitlines(), *(line for _, _, clause in said for line in clause.splitlines())]
+    facts = "\n".join(clause.split("{", 1)[1] for _, _, clause in said)
+    ensured = "\n".join(clause.split("{", 1)[1] for kind, _, clause in said if kind == "ensures")
+    bound = bound_in(facts) | set(PARAMETER.findall(head)) | {"result", "self"}
+    given = head.split("->")[0]
+    types = [it for it in re.findall(r"\b[A-Z]\w*", given[given.find("("):]) if it not in parameters]
+    asked = [premise(clause) for kind, _, clause in said if kind == "requires"]
+    return Item(lines, types, names_in(facts, bound), parameters, asked, names_in(ensured, bound))
 
 
 def impl_head(code: Code, number: int) -> str:

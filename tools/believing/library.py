@@ -103,6 +103,7 @@ def lines_of(place: Place) -> list[str]:
     return [line for line in found_at(place).lines if line.strip()]
 
 
+@cache
 def found_at(place: Place) -> code.Item | definitions.Definition:
     """Returns the definition, the type or the contract at a place."""
     if place.path.suffix == ".antt":
@@ -114,6 +115,7 @@ def found_at(place: Place) -> code.Item | definitions.Definition:
     return found
 
 
+@cache
 def used_by(place: Place) -> list[Place]:
     """Returns what a place uses, without duplicates, in the order of its words. A word that is not found is an
     error."""

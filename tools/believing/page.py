@@ -6,8 +6,8 @@ import re
 from believing import definitions
 from believing.code import Item
 from believing.library import ROOT, Place, found_at, lines_of
-from believing.theorems import THEOREMS, Theorem
-from believing.walking import by_files, count, places
+from believing.theorems import THEOREMS, Ensured, Theorem
+from believing.walking import by_files, check_tokens, count, places
 
 PAGE = ROOT / "docs" / "READING.md"
 PART = re.compile(r"<!-- computed: (\w+) -->\n(.*?)<!-- end -->\n", re.S)
@@ -27,6 +27,7 @@ def parts_of(sentences: dict[str, str]) -> dict[str, str]:
     parts, before = {}, set()
     for theorem in THEOREMS:
         found = places(theorem)
+        check_tokens(theorem)
         parts[theorem.key] = part(theorem, found, before, sentences)
         before.update(found)
     return parts
@@ -56,10 +57,14 @@ def part(theorem: Theorem, found: list[Place], before: set[Place], sentences: di
 
 def said_in(place: Place) -> str:
     """Returns a contract's clauses and its file."""
-    labels = ", ".join(f"`{label}`" for label in place.clauses or ())
-    which = f" ({labels})" if labels else ""
     asked = " and ".join(f"`{its}`" for its in premises(place))
-    return f"`{place.name}`{which} in `{place.file}`{f', which requires {asked}' if asked else ''}"
+    return f"{call_of(place)} in `{place.file}`{f', which requires {asked}' if asked else ''}"
+
+
+def call_of(place: Place) -> str:
+    """Returns a contract's name and its clauses."""
+    labels = ", ".join(f"`{label}`" for label in place.clauses or ())
+    return f"`{place.name}`{f' ({labels})' if labels else ''}"
 
 
 def premises(place: Place) -> list[str]:
@@ -83,8 +88,25 @@ def sentence(its: list[Place]) -> str:
 
 
 def reasons(theorem: Theorem) -> dict[str, list[str]]:
-    """Returns the names that need not be read, by reason."""
+    """Returns the names that need not be read, by reason. If clauses ensure them that are not the theorem's own, the
+    reason says which, and what these calls require."""
     found: dict[str, list[str]] = {}
+    own = {(place.path, place.name) for place in theorem.said}
     for name, why in theorem.tokens.items():
-        found.setdefault(why, []).append(name)
+        others = [place for place in why.by if (place.path, place.name) not in own] if isinstance(why, Ensured) else []
+        text = why.why if isinstance(why, Ensured) else why
+        found.setdefault(text + seen_in(others), []).append(name)
     return found
+
+
+def seen_in(contracts: list[Place]) -> str:
+    """Returns the end of a reason that says where these contracts are, and what they require."""
+    if not contracts:
+        return ""
+    *others, last = [call_of(place) for place in contracts]
+    calls = f"{', '.join(others)} and {last}" if others else last
+    files = " and ".join(dict.fromkeys(f"`{place.file}`" for place in contracts))
+    asked = [
+        f"`{place.name}` requires {' and '.join(f'`{its}`' for its in premises(place))}"
+        for place in contracts if premises(place)]
+    return "; ".join([f"; see {calls} in {files}", *asked])

@@ -5,6 +5,16 @@ from dataclasses import dataclass, field
 from believing.library import CRATES, Place
 
 
+@dataclass(frozen=True)
+class Ensured:
+    """Why a name need not be read: each of these clauses ensures it, by name or by a definition that contains the name.
+    If there are parts, the clauses ensure these instead, and the name is defined by them."""
+
+    why: str
+    by: tuple[Place, ...]
+    parts: tuple[str, ...] = ()
+
+
 @dataclass
 class Theorem:
     """A theorem: its mark on the page; where it is stated; the most lines that it may need, if that is bounded; the
@@ -14,7 +24,7 @@ class Theorem:
     key: str
     said: list[Place]
     most: int | None = None
-    tokens: dict[str, str] = field(default_factory=dict)
+    tokens: dict[str, str | Ensured] = field(default_factory=dict)
     traits: list[Place] = field(default_factory=list)
 
 
@@ -28,40 +38,69 @@ def trait(crate: str, file: str, name: str) -> Place:
     return Place(CRATES / crate / "src" / file, name)
 
 
+def on_link(name: str, *labels: str) -> Place:
+    """Returns these clauses of a call of `Link`."""
+    return clauses("copy_both", "link.rt", name, *labels)
+
+
+def on_subscriber(name: str, *labels: str) -> Place:
+    """Returns these clauses of a call of `Subscriber`."""
+    return clauses("test_subscriber", "subscriber.rt", name, *labels)
+
+
+def on_book(name: str, *labels: str) -> Place:
+    """Returns these clauses of a call of `Book`."""
+    return clauses("tables_log", "book.rt", name, *labels)
+
+
+def in_world(name: str, *labels: str) -> Place:
+    """Returns these clauses of a call of `World`."""
+    return clauses("shard_world", "world.rt", name, *labels)
+
+
+MADE = clauses("copy_frames", "laws.rt", "bytes_make_frames", "made")
+READS = clauses("pub_reader", "statement.rt", "read_catalog", "catalog")
+
 HANDED = {
-    "Opens": "what `Subscriber::open` ensures and the law requires",
-    "Feeds": "what `Subscriber::feed` ensures and the law requires",
-    "sub_machine": "what a `Subscriber` keeps; `rows` and `position` show its rows and its position",
+    "Opens": Ensured("what `Subscriber::open` ensures and the law requires", (on_subscriber("open", "ok"),)),
+    "Feeds": Ensured("what `Subscriber::feed` ensures and the law requires", (on_subscriber("feed", "ok"),)),
+    "sub_machine": Ensured(
+        "what a `Subscriber` keeps; `rows` and `position` show its rows and its position",
+        (on_subscriber("rows", "found"), on_subscriber("position"))),
 }
 
 LINKS = {
-    "HearSays": "what `Link::hear` ensures and the law requires",
-    "HearingOf": "what `Link::hear` heard in a piece: where the stream starts, how many replies are requested, and the "
-                 "kind of the client's frame that ended it, 99 for CopyDone (`copy_both/specs/Hearing` and `Events`)",
-    "LinkPasses": "what `Link::passed` ensures and the law requires",
-    "link_stage": "the state of a link, which calls pass to one another; it is `Started` exactly while `Link::sent` "
-                  "returns a position",
-    "link_checked": "the catalog of a link, which is the one that `Link::new` was given",
-    "link_output": "what waits to be sent, which `Link::output` shows",
+    "HearSays": Ensured("what `Link::hear` ensures and the law requires", (on_link("hear", "says"),)),
+    "HearingOf": Ensured(
+        "what `Link::hear` heard in a piece: where the stream starts, how many replies are requested, and the kind of "
+        "the client's frame that ended it, 99 for CopyDone (`copy_both/specs/Hearing` and `Events`)",
+        (on_link("hear", "says"),)),
+    "LinkPasses": Ensured("what `Link::passed` ensures and the law requires", (on_link("passed"),)),
+    "link_stage": Ensured(
+        "the state of a link, which calls pass to one another; it is `Started` exactly while `Link::sent` returns a "
+        "position", (on_link("sent"),)),
+    "link_checked": Ensured("the catalog of a link, which is the one that `Link::new` was given", (on_link("new"),)),
+    "link_output": Ensured("what waits to be sent, which `Link::output` shows", (on_link("output"),)),
 }
 
 FRAMES = {
-    "whole_frames": "the frames of bytes, which `bytes_make_frames` defines",
-    "bytes_left": "what comes after the frames of bytes, which `bytes_make_frames` defines",
-    "fault_in": "the fault of what comes after the frames of bytes, which `bytes_make_frames` defines",
+    "whole_frames": Ensured("the frames of bytes, which `bytes_make_frames` defines", (MADE,)),
+    "bytes_left": Ensured("what comes after the frames of bytes, which `bytes_make_frames` defines", (MADE,)),
+    "fault_in": Ensured(
+        "the fault of what comes after the frames of bytes, which `bytes_make_frames` defines", (MADE,)),
 }
 
 BOOKS = {
     "HasMaps": "how a `Book` keeps its rows, which `row` shows",
     "IsSettled": "how a `Book` keeps its rows, which `row` shows",
     "IsRouterOf": "how a `Book` finds who gets a change, which `owners` of an entry shows",
-    "book_log": "the log of a `Book`, which `entry` shows",
-    "book_rows": "the tables of a `Book`, which `row` shows",
-    "book_checked": "the catalog of a `Book`, which is the one that `new` was given",
+    "book_log": Ensured("the log of a `Book`, which `entry` shows", (on_book("entry"),)),
+    "book_rows": Ensured("the tables of a `Book`, which `row` shows", (on_book("row"),)),
+    "book_checked": Ensured("the catalog of a `Book`, which is the one that `new` was given", (on_book("new"),)),
     "book_setting": "what the catalog of a `Book` says about changes, as in `setting_of`",
 }
 
-LIMIT = "the limit of a `Book`, which `limit` shows"
+LIMIT = Ensured("the limit of a `Book`, which `limit` shows", (on_book("limit", "shows"),))
 
 COMMAND = ("the grammar of START_REPLICATION, of 55.4 of the documentation, and of the options of pgoutput, in "
            "`copy_both/specs/CommandText`")
@@ -74,8 +113,9 @@ SHOWN = Theorem("shown", [
 ], most=650)
 
 READ = Theorem("read", [clauses("pub_reader", "laws.rt", "catalogs_are_well_formed")], most=200, tokens={
-    "catalog_by": "the catalog that a text spells, which `read_catalog` returns: the grammar is read in part 6",
-    "as_filter": "the filter that is written there: the grammar is read in part 6",
+    "catalog_by": Ensured(
+        "the catalog that a text spells, which `read_catalog` returns: the grammar is read in part 6", (READS,)),
+    "as_filter": Ensured("the filter that is written there: the grammar is read in part 6", (READS,)),
 })
 
 CODEC = Theorem("codec", [
@@ -88,43 +128,53 @@ CONNECTION = Theorem("connection", [
     clauses("copy_both", "laws.rt", "links_say_streams", "hears", "takes", "keeps", "passes", "grows"),
     clauses("stream_laws", "laws.rt", "fed_subscribers_follow", "first", "fed", "stops"),
     clauses("test_subscriber", "laws.rt", "pieces_are_fed_as_one", "fed"),
-    clauses("test_subscriber", "subscriber.rt", "rows"),
-    clauses("test_subscriber", "subscriber.rt", "position"),
-    clauses("copy_both", "link.rt", "output"),
-    clauses("copy_both", "link.rt", "sent"),
+    on_subscriber("rows"),
+    on_subscriber("position"),
+    on_link("output"),
+    on_link("sent"),
 ], most=1400, tokens={
     **HANDED,
     **LINKS,
-    "FeedStops": "what `Subscriber::feed` ensures if it is refused memory, and the law requires",
-    "sub_listed": "what `Subscriber::rows` lists",
-    "LinkSays": "what `Link::take` and `Link::keepalive` ensure and the law requires",
-    "next_bytes": "ensured by `Link::take` and required by the law, word for word",
-    "next_stage": "ensured by `Link::take` and required by the law, word for word",
-    "kept_bytes": "ensured by `Link::keepalive` and required by the law, word for word",
+    "FeedStops": Ensured(
+        "what `Subscriber::feed` ensures if it is refused memory, and the law requires",
+        (on_subscriber("feed", "stops"),)),
+    "sub_listed": Ensured("what `Subscriber::rows` lists", (on_subscriber("rows", "shows"),)),
+    "LinkSays": Ensured(
+        "what `Link::take` and `Link::keepalive` ensure and the law requires",
+        (on_link("take", "ok"), on_link("keepalive", "ok"))),
+    "next_bytes": Ensured("ensured by `Link::take` and required by the law, word for word", (on_link("take", "ok"),)),
+    "next_stage": Ensured("ensured by `Link::take` and required by the law, word for word", (on_link("take", "ok"),)),
+    "kept_bytes": Ensured(
+        "ensured by `Link::keepalive` and required by the law, word for word", (on_link("keepalive", "ok"),)),
 })
 
 ENDED = Theorem("ended", [
     clauses("copy_both", "laws.rt", "links_say_streams", "ends", "breaks", "stops", "rest", "front"),
-    clauses("copy_both", "link.rt", "output"),
+    on_link("output"),
 ], most=1000, tokens={
     **LINKS,
-    "SendsFirst": "what `Link::hear` ensures if it is refused memory, and the law requires",
-    "Closes": "what a call that closes a link ensures, and the law requires",
+    "SendsFirst": Ensured(
+        "what `Link::hear` ensures if it is refused memory, and the law requires", (on_link("hear", "says"),)),
+    "Closes": Ensured(
+        "what a call that closes a link ensures, and the law requires",
+        (on_link("hear", "says"), on_link("take", "err"), on_link("keepalive", "err"), on_link("lose"))),
 })
 
 HEADLINE = Theorem("headline", [
-    clauses("shard_world", "world.rt", "new"),
-    clauses("shard_world", "world.rt", "step"),
-    clauses("shard_world", "world.rt", "run"),
-    clauses("shard_world", "world.rt", "pump"),
-    clauses("shard_world", "world.rt", "view"),
+    in_world("new"),
+    in_world("step"),
+    in_world("run"),
+    in_world("pump"),
+    in_world("view"),
 ], most=1800, tokens={
-    "IsWorld": "which world of the definition a `World` matches: `new` ensures it for the first one, each call "
-               "preserves it, and `view` requires it",
-    "world_checked": "the catalog of a `World`, which is the one that `new` was given",
+    "IsWorld": Ensured(
+        "which world of the definition a `World` matches: `new` ensures it for the first one, each call preserves it, "
+        "and `view` requires it", (in_world("new", "stands"), in_world("step"))),
+    "world_checked": Ensured(
+        "the catalog of a `World`, which is the one that `new` was given", (in_world("new", "checked"),)),
     "IsServedAlike": "that the book of a `World` has its catalog, so that `step` takes commits by the book's sets",
     "AreLinkedTo": "that the connections of a `World` have its catalog, so that `step` takes commits by the book's sets",
-    "book_checked": "the catalog of a `Book`, which is the one that `new` was given",
+    "book_checked": BOOKS["book_checked"],
     "machine_now": "how the definition keeps a subscriber's rows; what is shown is defined without it",
     "Machine": "how the definition keeps a subscriber's rows; what is shown is defined without it",
     "first_machine": "how the definition keeps a subscriber's rows; what is shown is defined without it",
@@ -136,7 +186,7 @@ PUBLISHING = trait("publisher_desk", "naming.rt", "Publishing")
 SERVED = Theorem("served", [
     clauses("senders", "serving.rt", "serve"),
     clauses("senders", "connection.rt", "run_all"),
-    clauses("copy_frames", "laws.rt", "bytes_make_frames", "made"),
+    MADE,
 ], most=2000, tokens={
     "frames_in": "the `whole_frames` of bytes, with the limit 65,536",
     **FRAMES,
@@ -166,7 +216,7 @@ SESSIONS = Theorem("sessions", [
 CLOSED = Theorem("closed", [
     clauses("senders", "closing.rt", "close"),
     clauses("senders", "laws.rt", "closed_publishers_were_followed"),
-    clauses("copy_frames", "laws.rt", "bytes_make_frames", "made"),
+    MADE,
 ], most=2400, tokens={
     **HANDED,
     **FRAMES,
@@ -179,18 +229,30 @@ PROGRAM = Theorem("program", [
     clauses("cli", "program.rt", "run"),
     clauses("cli", "program.rt", "run_serving"),
 ], most=6750, tokens={
-    "IsClosed": "what `close` of `senders` ensures, which is read in part 5",
-    "RefusedClose": "what `close` of `senders` ensures, which is read in part 5",
-    "WasServed": "that `serve` of `senders`, which is read in part 5, may return this result for some bytes that were "
-                 "read and written",
-    "IsMade": "what `commit` of `publisher_desk` ensures, which is read in part 5",
-    "IsPassedOver": "what `commit` of `publisher_desk` ensures, which is read in part 5, and that the error is not out of "
-                    "memory",
+    "IsClosed": Ensured(
+        "what `close` of `senders` ensures, which is read in part 5",
+        (clauses("senders", "closing.rt", "close", "ok"),)),
+    "RefusedClose": Ensured(
+        "what `close` of `senders` ensures, which is read in part 5",
+        (clauses("senders", "closing.rt", "close", "refused"),)),
+    "WasServed": Ensured(
+        "that `serve` of `senders`, which is read in part 5, may return this result for some bytes that were read and "
+        "written", (clauses("senders", "serving.rt", "serve"),), parts=("IsServed",)),
+    "IsMade": Ensured(
+        "what `commit` of `publisher_desk` ensures, which is read in part 5",
+        (clauses("publisher_desk", "publisher.rt", "commit", "made"),)),
+    "IsPassedOver": Ensured(
+        "what `commit` of `publisher_desk` ensures, which is read in part 5, and that the error is not out of memory",
+        (clauses("publisher_desk", "publisher.rt", "commit", "refused", "fault"),), parts=("IsRefused", "HasFault")),
     "IsRouterOf": "how a `Book` finds who gets a change, which `owners` of an entry shows",
-    "cut": "the frames of bytes and what comes after them: `bytes_make_frames`, which is read in part 5, says of its "
-           "frames, of its rest and of its fault what they are",
-    "decoded": "the message that bytes spell, or a fault that they have: `spellings_are_decoded` of `pgoutput_msgs` "
-               "says of it what part 2 says of `decode`",
+    "cut": Ensured(
+        "the frames of bytes and what comes after them: `bytes_make_frames`, which is read in part 5, says of its "
+        "frames, of its rest and of its fault what they are",
+        (clauses("copy_frames", "laws.rt", "bytes_make_frames", "cut"),)),
+    "decoded": Ensured(
+        "the message that bytes spell, or a fault that they have: `spellings_are_decoded` of `pgoutput_msgs` says of "
+        "it what part 2 says of `decode`",
+        (clauses("pgoutput_msgs", "laws.rt", "spellings_are_decoded", "decoded", "spelled", "alone", "faults"),)),
 })
 
 THEOREMS = [SOUNDNESS, SHOWN, READ, CODEC, CONNECTION, ENDED, HEADLINE, SERVED, SESSIONS, CLOSED, PROGRAM]

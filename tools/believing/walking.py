@@ -1,7 +1,11 @@
 """Finds what has to be read for a theorem: the places, and their files in reading order."""
 
-from believing.library import Place, lines_of, used_by
-from believing.theorems import Theorem
+from dataclasses import replace
+from functools import cache
+
+from believing.code import Item
+from believing.library import Place, found_at, lines_of, used_by, used_in_code
+from believing.theorems import Ensured, Theorem
 
 
 def places(theorem: Theorem) -> list[Place]:
@@ -27,12 +31,43 @@ def not_read(theorem: Theorem) -> list[Place]:
         used for place in places(theorem) for used in used_by(place) if used.name in theorem.tokens))
 
 
+def check_tokens(theorem: Theorem) -> None:
+    """Fails if a clause does not ensure a name that is not read since that clause ensures it."""
+    met = {place.name: place for place in not_read(theorem)}
+    for name, why in theorem.tokens.items():
+        if isinstance(why, Ensured) and name in met:
+            check_ensured(met[name], why)
+
+
+def check_ensured(token: Place, why: Ensured) -> None:
+    """Fails if one of the clauses does not ensure the name, or its parts, if it is defined by parts."""
+    each = [replace(place, clauses=(label,)) for place in why.by for label in place.clauses or ()]
+    for place in each + [place for place in why.by if not place.clauses]:
+        if not ensured_by(place) & set(why.parts or [token.name]):
+            clause = " ".join([place.name, *(place.clauses or ())])
+            raise LookupError(f"{place.file}: {clause} does not ensure {token.name}")
+    for part in why.parts:
+        if not any(part in ensured_by(place) for place in why.by):
+            raise LookupError(f"{why.by[0].file}: {why.by[0].name} does not ensure {part}")
+        if part not in {it.name for it in used_by(token)}:
+            raise LookupError(f"{token.file}: {token.name} is not defined by {part}")
+
+
+@cache
+def ensured_by(place: Place) -> set[str]:
+    """Returns the names in the clauses of a contract, and those in their definitions."""
+    found = found_at(place)
+    assert isinstance(found, Item)
+    own = [it for it in used_in_code(place, replace(found, types=[], names=found.ensured)) if it is not None]
+    return {it.name for it in own} | {it.name for its in own for it in used_by(its)}
+
+
 def by_files(found: list[Place]) -> dict[str, list[Place]]:
     """Groups places by file. Each file comes after those that it uses, if possible."""
     files: dict[str, list[Place]] = {}
     for place in found:
         files.setdefault(place.file, []).append(place)
-    order, seen = [], set()
+    order, seen, listed = [], set(), set(found)
 
     def visit(file: str) -> None:
         if file in seen:
@@ -40,7 +75,7 @@ def by_files(found: list[Place]) -> dict[str, list[Place]]:
         seen.add(file)
         for place in files[file]:
             for used in used_by(place):
-                if used in found:
+                if used in listed:
                     visit(used.file)
         order.append(file)
 

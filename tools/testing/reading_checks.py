@@ -112,6 +112,29 @@ PLANTS = {
         "filter_tree/src/text.rt", "    ghost view = { λ t. string_bytes t.text };\n",
         "    ghost view = { λ t. string_bytes t.text };\n    ghost invariant = { λ t. is_short (string_bytes t.text) };\n",
         "the word is_short is not found"),
+    "a new requires of a call that ensures what a law requires": (
+        "copy_both/src/link.rt", "Result<Heard, LinkFault>\n        ensures answer {",
+        "Result<Heard, LinkFault>\n        requires { IsStarted (link_stage self.old) }\n        ensures answer {", DIFFERS),
+    "a new requires of another such call": (
+        "copy_both/src/link.rt", "pub fn take(&mut self, book: &Book, now: u64) -> Result<Taken, LinkFault>\n",
+        "pub fn take(&mut self, book: &Book, now: u64) -> Result<Taken, LinkFault>\n        requires { now.now < 9 }\n", DIFFERS),
+    "a new requires of a call in another crate": (
+        "test_subscriber/src/subscriber.rt", "        ensures ok { OnOk result (spec.Feeds ",
+        "        requires { 1 ≤ 2 }\n        ensures ok { OnOk result (spec.Feeds ", DIFFERS),
+    "a clause that no longer ensures a name": (
+        "copy_both/src/link.rt", "        ensures says { HearSays self.old self.new (link_heard self.old book.old piece.now) now result }\n",
+        "        ensures says { IfErr result (λ fault. link_sent self.old ≡ link_sent self.old) }\n",
+        "copy_both/src/link.rt: hear says does not ensure HearSays"),
+    "a clause that is renamed away": (
+        "pub_reader/src/statement.rt", "    ensures catalog {", "    ensures catalogue {", "read_catalog ensures no clause catalog"),
+    "a law that says less": (
+        "pgoutput_msgs/src/laws.rt", "    ensures decoded { SpellingsAreDecoded }\n", "    ensures decoded { RowsReadBack }\n",
+        "spellings_are_decoded decoded does not ensure decoded"),
+    "a name that is defined by something else": (
+        "cli/specs/Connections.antt",
+        "  pub is : IsServed checked left now_left source_failed source_ended before after sink_failed served\n",
+        "  pub is : Served\n",
+        "WasServed is not defined by IsServed"),
     "a definition that is renamed away": (
         "shard_checker/specs/Sound.antt", "pub record IsSound ", "pub record IsSoundToo ", "the word IsSound is not found"),
     "a type that is renamed away": (
