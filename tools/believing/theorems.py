@@ -107,10 +107,22 @@ COMMAND = ("the grammar of START_REPLICATION, of 55.4 of the documentation, and 
 
 SOUNDNESS = Theorem("soundness", [clauses("shard_checker", "sharding.rt", "check", "sound", "kept")], most=650)
 
-SHOWN = Theorem("shown", [
-    clauses("commands", "verdicts.rt", "verdict_of", "sound"),
-    clauses("catalog_text", "catalog.rt", "write_catalog"),
-], most=650)
+GRAMMAR = "the grammar, which need not be read, since the text of the catalog is printed"
+CERTIFICATES = "the certificates, which need not be read, since the catalog is sound"
+REFUSAL = "why a sharding is refused or an input is not read; then the status is not `Done`"
+
+SHOWN = Theorem("shown", [clauses("commands", "check.rt", "check_input", "ends")], most=650, tokens={
+    "catalog_by": GRAMMAR,
+    "as_filter": GRAMMAR,
+    "lines_of": CERTIFICATES,
+    "text_fault": CERTIFICATES,
+    "trees_in": CERTIFICATES,
+    "Tree": CERTIFICATES,
+    "IsFirstRefusal": CERTIFICATES,
+    "SaysRefused": REFUSAL,
+    "IsCheckFault": REFUSAL,
+    "InputFault": REFUSAL,
+})
 
 READ = Theorem("read", [clauses("pub_reader", "laws.rt", "catalogs_are_well_formed")], most=200, tokens={
     "catalog_by": Ensured(
