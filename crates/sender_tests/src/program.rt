@@ -74,7 +74,7 @@ fn serve_input<
     Ok((status, writer.bytes))
 }
 
-/// A client that wants one row, of this key and this region. Whether it got it is told to the board.
+/// A client that wants one row, of this key and this region. It informs the board whether it got it.
 fn client<R: Clock + Net<Listener = TcpListener, Stream = TcpStream>>(
     rt: &R,
     board: &Board,

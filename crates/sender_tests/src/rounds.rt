@@ -6,7 +6,7 @@ use senders::End;
 /// A round, in which a session acts, and tells the clients when they say their lines.
 #[derive(Clone, Copy, Debug, PartialEq, Eq)]
 pub(crate) enum Round {
-    /// No round: sessions and clients go on by themselves.
+    /// No round: sessions and clients continue by themselves.
     Free,
     /// Both clients report what they have, ask for replies, and leave. The first one is sent the first commit alone.
     Reports,
@@ -54,7 +54,7 @@ pub(crate) enum Phrase {
     Terminate,
 }
 
-/// The lines of a client, each of which it says when it is told to. An empty line closes its side.
+/// The lines of a client, each of which it sends when it is asked to. An empty line closes its side.
 type Lines = &'static [&'static [Phrase]];
 
 /// What came of a connection: where its stream started, why it ended, how many keepalives it was sent, how often its

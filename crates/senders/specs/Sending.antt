@@ -29,7 +29,7 @@ pub record Spells (told : VoiceRun) (output last : List ℕ) : Type 0 where
       ≡ stream (telling_of told.checked) log told.start.slot told.start.tables told.start.position told.moves
       ++ last
 
--- A voice goes on, and nothing waits.
+-- A voice continues, and nothing waits.
 pub record IsQuiet (voice : Voice) (told : VoiceRun) : Type 0 where
   pub tells : IsTelling voice told
   pub none : voice_output voice ≡ []
@@ -41,7 +41,7 @@ pub record Follows (old new : VoiceRun) (taken : List CommitOf) (bytes : List �
   pub taken_is : new.taken ≡ old.taken ++ taken
   pub passed_is : new.passed ≡ old.passed ++ bytes
 
--- The voice goes on with its stream, and these bytes were written; others may wait.
+-- The voice continues its stream, and these bytes were written; others may wait.
 pub record TellsOn (before after : Option (List ℕ)) (taken : List CommitOf) (voice : Voice) (told : VoiceRun) : Type 0 where
   pub now : VoiceRun
   pub bytes : List ℕ
@@ -61,7 +61,7 @@ AreQuietFor checked voices.NotStarted commits = Unit {0}
 AreQuietFor checked (voices.Started place) commits = ArePassed checked.plan place.slot place.done commits
 AreQuietFor checked voices.Closed commits = Unit {0}
 
--- The voice goes on with its stream, and these bytes were written, which are all.
+-- The voice continues its stream, and these bytes were written, which are all.
 pub record GoesOn (before after : Option (List ℕ)) (taken : List CommitOf) (voice : Voice) (told : VoiceRun) : Type 0 where
   pub now : VoiceRun
   pub bytes : List ℕ

@@ -19,7 +19,7 @@ pub record IsNewVoice (checked : CheckedOf) (voice : Voice) : Type 0 where
   pub stage_is : voice_stage voice ≡ voices.NotStarted
   pub none : voice_output voice ≡ []
 
--- CopyBothResponse was written, and the stream goes on.
+-- CopyBothResponse was written, and the stream continues.
 pub record Opens (checked : CheckedOf) (slot start : ℕ) (before after : Option (List ℕ)) (voice : Voice) : Type 0 where
   pub put : Appends before after copy_both_response
   pub quiet : IsQuiet voice (started_telling checked slot start copy_both_response)
@@ -66,7 +66,7 @@ pub record SaysNothing (was now : SenderEnd) (before after : Option (List ℕ)) 
   pub put : Appends before after []
   pub same : failed ≡ was_failed
 
--- Nothing waits, and the stream goes on.
+-- Nothing waits, and the stream continues.
 pub record IsResting (voice : Voice) : Type 0 where
   pub none : voice_output voice ≡ []
   pub state : StreamStateOf

@@ -47,7 +47,7 @@ line_by None told = told
 line_by (Some fault) told = bad_line (Invalid fault)
 
 module _ (wanted : RowOutput) (number : ℕ) (carriers : List CarrierOf) (columns : List Column) where
-  -- the line of a row that fits is what is told of it; of another, why it does not fit, or is not read
+  -- the line of a row that fits is what is said of it; of another, why it does not fit, or is not read
   abbrev pub IsLineOf : Result (List Datum) Fault → List ℕ → Type 0
   IsLineOf (Ok row) line = line ≡ line_by (row_fault columns row) (row_said wanted number row carriers)
   IsLineOf (Err fault) line = IsUnreadable fault line

@@ -1,4 +1,4 @@
--- A memo of what is told of rows, which follows from what the filters of publications say of the row: PostgreSQL 15,
+-- A memo of what is said of rows, which follows from what the filters of publications say of the row: PostgreSQL 15,
 -- "Logical Replication", 31.3 Row Filters.
 use Rattle.std.specs.Prelude.{◌≡◌, ℕ, if◌then◌else◌, List, [], Option, Some, None, map, codes, slice_get}
 use Rattle.filter_tree.specs.Datum.{Datum}

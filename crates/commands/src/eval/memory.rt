@@ -14,7 +14,7 @@ use filter_memo::{Memo, Said};
 use filter_tree::{Filter, Row};
 use std::alloc::{AllocError, Global};
 
-/// Memory for the message of a row, and a memo of what is told of rows, which is made once there is a row.
+/// Memory for the message of a row, and a memo of what is said of rows, which is made once there is a row.
 #[derive(Drop)]
 pub struct RowMemory {
     pub spelling: Spelling,
