@@ -1,13 +1,11 @@
 """Output for monitoring: one line for Nagios, a file for Prometheus, and exit statuses that distinguish answers."""
 
-import os
 import re
-import tempfile
 import time
 from collections.abc import Mapping, Sequence
 
-from pgshard_tools.judging import verdicts
-from pgshard_tools.judging.faults import BAD_COMMAND, NOT_READ, NOT_SOUND, SOUND, Fault
+from pgshard_tools.judging import verdicts, writing
+from pgshard_tools.judging.faults import NOT_READ, NOT_SOUND, SOUND, Fault
 from pgshard_tools.judging.report import Report
 
 ANSWERS = (verdicts.SOUND, verdicts.NOT_SOUND, verdicts.REFUSED, verdicts.NOT_DECIDED, verdicts.NOT_READ)
@@ -144,19 +142,5 @@ def escaped(text: str) -> str:
 
 
 def write_metrics(path: str, text: str) -> None:
-    """Writes a file atomically, so that nobody reads a part of it. Everyone may read it, since it is collected by
-    another user."""
-    folder = os.path.dirname(os.path.abspath(path))
-    try:
-        with tempfile.NamedTemporaryFile(
-                "w", dir=folder, prefix=".pgshard_", encoding="utf-8", errors="backslashreplace", delete=False) as file:
-            try:
-                file.write(text)
-                file.flush()
-                os.fchmod(file.fileno(), 0o644)
-                os.replace(file.name, path)
-            except BaseException:
-                os.unlink(file.name)
-                raise
-    except OSError as fault:
-        raise Fault(BAD_COMMAND, f"cannot write {path}: {fault}") from fault
+    """Writes the file for Prometheus. Everyone may read it, since it is collected by another user."""
+    writing.write(path, text, 0o644)

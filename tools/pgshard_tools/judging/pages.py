@@ -5,9 +5,8 @@ import os
 from collections.abc import Iterator, Mapping, Sequence
 from html import escape
 
-from pgshard_tools.judging import report, verdicts
+from pgshard_tools.judging import report, verdicts, writing
 from pgshard_tools.judging.database import FOLDER
-from pgshard_tools.judging.faults import BAD_COMMAND, Fault
 from pgshard_tools.judging.pictures import Cell, Map
 from pgshard_tools.judging.repairing import Repair, lines_of
 from pgshard_tools.judging.report import Report
@@ -22,13 +21,7 @@ WRITTEN = {verdicts.NOT_SOUND: "NOT SOUND", verdicts.REFUSED: "REFUSED"}
 
 def write(path: str, answer: Report, purposes: Mapping[str, str], repairs: Sequence[Repair]) -> None:
     """Writes the page to a file, either completely or not at all."""
-    text = Page(answer, purposes, {it.table: it for it in repairs}).text()
-    try:
-        with open(f"{path}.new", "w", encoding="utf-8", errors="backslashreplace") as file:
-            file.write(text)
-        os.replace(f"{path}.new", path)
-    except OSError as fault:
-        raise Fault(BAD_COMMAND, f"cannot write {path}: {fault}") from fault
+    writing.write(path, Page(answer, purposes, {it.table: it for it in repairs}).text())
 
 
 class Page:

@@ -135,8 +135,7 @@ def check_fault(tally: Tally, server: Server, folder: pathlib.Path) -> None:
     """Tests a page that cannot be written."""
     found = judge(*server.words("pictured"), "--html", str(folder / "none" / "page.html"))
     tally.check("a page that cannot be written", found.splitlines()[-2:], [
-        f"judge: cannot write {folder}/none/page.html: [Errno 2] No such file or directory: "
-        f"'{folder}/none/page.html.new'", "status 2"])
+        f"judge: cannot write {folder}/none/page.html: No such file or directory", "status 2"])
 
 
 def browser(*words: str) -> "subprocess.CompletedProcess[str]":
