@@ -5,7 +5,11 @@ from functools import cache
 
 from refusing.tokens import Token, partners_of, tokens_of, written
 
-INTEGERS = {"u8", "u16", "u32", "u64", "u128", "usize", "i8", "i16", "i32", "i64", "i128", "isize"}
+INTEGERS = {
+    "u8", "u16", "u32", "u64", "u128", "usize", "i8", "i16", "i32", "i64", "i128", "isize",
+    # the project's own names for such types
+    "CommitNumber", "SlotNumber", "SubscriberNumber", "TableNumber",
+}
 
 
 @dataclass(frozen=True)

@@ -12,7 +12,7 @@ ghost use Rattle.cert_maker.specs.declared.made.Made.TheVariants.{Unknown};
 use crate::made::Made;
 use bumpalo::Bump;
 use cert_search::{Found, MAX_STEPS, find_cert, owners_of};
-use filter_tree::{Row, Table, valid};
+use filter_tree::{Row, Table, TableNumber, valid};
 use pub_catalog::Catalog;
 use replica_identity::{Plan, Share};
 use shard_checker::{CheckError, check_one, shares_in};
@@ -87,7 +87,7 @@ fn answer<'b>(
     arena: &'b Bump,
     catalog: &Catalog,
     plan: &Plan,
-    number: usize,
+    number: TableNumber,
     table: &Table,
 ) -> Result<Made<'b>, AllocError>
     ensures { IfOk result (IsRight table.now
@@ -112,7 +112,7 @@ pub fn make<'b>(
     arena: &'b Bump,
     catalog: &Catalog,
     plan: &Plan,
-    table: usize,
+    table: TableNumber,
 ) -> Made<'b>
     ensures absent { length catalog.now.tables.items ≤ table → result ≡ Unknown }
     ensures cert { IfCert result (IsAcceptedCert (catalog_view catalog.now) (plan_view plan.now) table) }

@@ -7,7 +7,7 @@ use Rattle.cli.proofs.RequestLemmas.{can_serve, somebody_serves}
 use Rattle.cli.specs.CommandLine.{AsksHelp, IsOfWords, IsRequest}
 use Rattle.cli.specs.Courses.{IsToServe, IsUnserved}
 use Rattle.cli.specs.Requests.{AnswersReader, CanServe, IsAsked, IsAnswer, IsBegunAnswer, IsRequestFault, EndsRequest}
-use Rattle.cli.specs.Runs.{asked_of_words, IsEnding}
+use Rattle.cli.specs.Runs.{asked_of_words, IsProgramEnding}
 use Rattle.cli.specs.declared.requests.Request.{Request}
 use Rattle.cli.specs.declared.requests.Request.TheVariants.{Eval, Show, Check, Make, Simulate, Serve, Publish}
 use Rattle.commands.specs.Inputs.{IsOfReading}
@@ -33,7 +33,7 @@ is_read (Publish feed) input there = there
 module _ (serves : Bool) (words : List (List ℕ)) (may_fail : Bool) (known : Option (List ℕ)) where
   answered : (request : Request) (input : List ℕ) (old new : Option (List ℕ)) (result : Result Status Failure)
       → IsAsked serves words known request input
-      → EndsRequest may_fail request input old new result → IsEnding serves words may_fail known old new result
+      → EndsRequest may_fail request input old new result → IsProgramEnding serves words may_fail known old new result
   answered request input old new result asked ends =
       exits.answered (asked_of_words serves words may_fail known) (IsAnswer may_fail request input)
       (IsBegunAnswer request input) (IsRequestFault request input)
@@ -47,7 +47,7 @@ module _ (serves : Bool) (words : List (List ℕ)) (may_fail : Bool) (known : Op
   module _ (request : Request) (asks : IsRequest words request) (can : CanServe serves request) where
     unread_told : (old new : Option (List ℕ)) (failure : Failure)
         → IsOfReading may_fail known failure → new ≡ old
-        → IsEnding serves words may_fail known old new (Err failure)
+        → IsProgramEnding serves words may_fail known old new (Err failure)
     unread_told old new (f.Input i.Unread) is same =
         (record { request = request; asks = asks; can = can; unread = is }, same)
     unread_told old new f.OutOfMemory is same =
@@ -62,13 +62,13 @@ module _ (serves : Bool) (words : List (List ℕ)) (may_fail : Bool) (known : Op
 
     unread_ends : (old new : Option (List ℕ)) (result : Result Status Failure)
         → IsErrAnd result (IsOfReading may_fail known) → new ≡ old
-        → IsEnding serves words may_fail known old new result
+        → IsProgramEnding serves words may_fail known old new result
     unread_ends old new (Ok status) is same = absurd is
     unread_ends old new (Err failure) is same = unread_told old new failure is same
 
   pub reader_ends : (request : Request) (old new : Option (List ℕ)) (result : Result Status Failure)
       → IsRequest words request → CanServe serves request → AnswersReader request may_fail known old new result
-      → IsEnding serves words may_fail known old new result
+      → IsProgramEnding serves words may_fail known old new result
   reader_ends request old new result asks can (inl answers) =
       answered request answers.input old new result (record { asks = asks; can = can; given = answers.given })
       answers.ends
@@ -79,16 +79,16 @@ module _ (serves : Bool) (words : List (List ℕ)) (may_fail : Bool) (known : Op
 
   pub help_ends : (text : List ℕ) (old new : Option (List ℕ)) (result : Result Status Failure) → AsksHelp words
       → IfOk result (λ status. status ≡ Done) → OnOk result (Appends old new (ended text))
-      → IfErr result (StopsText (ended text) old new) → IsEnding serves words may_fail known old new result
+      → IfErr result (StopsText (ended text) old new) → IsProgramEnding serves words may_fail known old new result
   help_ends text old new (Ok status) asks same appends stops =
-      subst (λ (s : Status). IsEnding serves words may_fail known old new (Ok s)) (sym same)
+      subst (λ (s : Status). IsProgramEnding serves words may_fail known old new (Ok s)) (sym same)
       (exits.help_written (asked_of_words serves words may_fail known) text old new asks appends)
   help_ends text old new (Err failure) asks same appends stops =
       exits.help_stopped (asked_of_words serves words may_fail known) text old new failure asks stops
 
   -- the arguments are a usage error
   pub words_end : (old : Option (List ℕ)) (failure : Failure) → IsOfWords words failure
-      → IsEnding serves words may_fail known old old (Err failure)
+      → IsProgramEnding serves words may_fail known old old (Err failure)
   words_end old (f.CommandLine why) is = (inl is, refl)
   words_end old f.OutOfMemory is = exits.out_of_memory (asked_of_words serves words may_fail known) old old refl
   words_end old (f.Input fault) is = absurd is
@@ -98,7 +98,7 @@ module _ (serves : Bool) (words : List (List ℕ)) (may_fail : Bool) (known : Op
 pub request_ends : (words : List (List ℕ)) (may_fail : Bool) (known : Option (List ℕ)) (request : Request)
     (old new : Option (List ℕ)) (result : Result Status Failure) → IsRequest words request → CanServe false request
     → AnswersReader request may_fail known old new result
-    → (serves : Bool) → IsEnding serves words may_fail known old new result
+    → (serves : Bool) → IsProgramEnding serves words may_fail known old new result
 request_ends words may_fail known request old new result asks can answers serves =
     reader_ends serves words may_fail known request old new result asks (can_serve request can serves) answers
 
@@ -106,10 +106,11 @@ request_ends words may_fail known request old new result asks can answers serves
 pub served_ends : {I : Type 0} (may_fail : Bool) (remaining : I → Option (List ℕ)) (words : List (List ℕ))
     (input left : I) (old mid new : Option (List ℕ)) (request : Request) (result : Result Status Failure)
     → IsToServe words input left old mid request → AnswersReader request may_fail (remaining left) mid new result
-    → IsEnding true words may_fail (remaining input) old new result
+    → IsProgramEnding true words may_fail (remaining input) old new result
 served_ends {I} may_fail remaining words input left old mid new request result is answers =
-    subst (λ (from : Option (List ℕ)). IsEnding true words may_fail (remaining input) from new result) is.unwritten
-    (subst (λ (given : I). IsEnding true words may_fail (remaining given) mid new result) is.unread
+    subst (λ (from : Option (List ℕ)). IsProgramEnding true words may_fail (remaining input) from new result)
+    is.unwritten
+    (subst (λ (given : I). IsProgramEnding true words may_fail (remaining given) mid new result) is.unread
     (reader_ends true words may_fail (remaining left) request mid new result is.asks (somebody_serves request)
     answers))
 
@@ -117,7 +118,7 @@ served_ends {I} may_fail remaining words input left old mid new request result i
 pub unserved_ends : {I : Type 0} (words : List (List ℕ)) (may_fail : Bool) (known : Option (List ℕ)) (input left : I)
     (old mid : Option (List ℕ)) (request : Request) (failure : Failure)
     → IsToServe words input left old mid request → IsUnserved failure
-    → IsEnding false words may_fail known old mid (Err failure)
+    → IsProgramEnding false words may_fail known old mid (Err failure)
 unserved_ends words may_fail known input left old mid request (f.CommandLine why) is told =
     (inr (refl, record { request = request; asks = is.asks; needs = is.needs }), is.unwritten)
 unserved_ends words may_fail known input left old mid request f.OutOfMemory is told =

@@ -29,7 +29,8 @@ module _ (asked : Asked) where
       (IsThere : InputFault → Type 0)
       (answers : (lines : List (List ℕ)) (status : Status) → IsWhole lines status → asked.Answers lines status)
       (begins : (lines : List (List ℕ)) → IsBegun lines → asked.Begins lines)
-      (has_fault : (fault : InputFault) → IsThere fault → asked.HasFault fault) (is_read : IsThere i.Unread → ⊥) where
+      (has_fault : (fault : InputFault) → IsThere fault → asked.IsInputFault fault)
+      (is_read : IsThere i.Unread → ⊥) where
     reason : (fault : InputFault) → IsThere fault → IsReason asked fault
     reason i.Unread there = absurd (is_read there)
     reason i.Parts there = has_fault i.Parts there

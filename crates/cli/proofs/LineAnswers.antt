@@ -22,13 +22,13 @@ use Rattle.commands.specs.Simulate.Simulation.{IsOfScript}
 use Rattle.commands.specs.declared.failure.Failure.TheVariants as f
 use Rattle.commands.specs.declared.failure.InputFault.{InputFault}
 use Rattle.commands.specs.declared.failure.InputFault.TheVariants as i
-use Rattle.cli.specs.Talks.{Answers, Committing, Empty, IsAnswer, Replies, Viewing, NoScript, NoText, OneStep, Tells, Unfit, first_unfit, is_fit, unfit_from}
+use Rattle.cli.specs.Talks.{Answers, Committing, Empty, IsLineAnswer, Replies, Viewing, NoScript, NoText, OneStep, Tells, Unfit, first_unfit, is_fit, unfit_from}
 use Rattle.cli.specs.Views.{IsViewText}
 
 module _ (checked : CheckedOf) (limit : ℕ) (line : List ℕ) (had : SeatOf) where
   -- the seat stays as it is
   told_only : (lines : List (List ℕ)) (text : List ℕ) → text ≡ text_of lines
-      → IsAnswer checked limit had line lines had → Answers checked limit line had had text
+      → IsLineAnswer checked limit had line lines had → Answers checked limit line had had text
   told_only lines text is answer = record { lines = lines; is = answer; text_is = is }
 
   pub no_text : (text : List ℕ) → (IsUtf8 line → ⊥) → text ≡ text_of (fault_line i.Unread ∷ [])

@@ -3,7 +3,7 @@ use Rattle.std.specs.Prelude.{◌≡◌, ℕ, Bool, false, List, Option, Result}
 use Rattle.cli.specs.CommandLine.{IsRequest}
 use Rattle.cli.specs.Outcomes.{NumberSaysFault}
 use Rattle.cli.specs.Requests.{CanServe}
-use Rattle.cli.specs.Runs.{IsEnding, IsOutcome, IsRun}
+use Rattle.cli.specs.Runs.{IsProgramEnding, IsProgramOutcome, IsProgramRun}
 use Rattle.cli.specs.declared.program.Course.{Course}
 use Rattle.cli.specs.declared.program.Course.TheVariants as c
 use Rattle.cli.specs.declared.requests.Request.{Request}
@@ -24,7 +24,7 @@ pub record IsToServe {I : Type 0} (words : List (List ℕ)) (input left : I) (ol
 abbrev pub IsCourse : {I : Type 0} → List (List ℕ) → Bool → Option (List ℕ) → I → Option (List ℕ) → Option (List ℕ)
     → Course I → Type 0
 IsCourse words may_fail known input old new (c.Ended ending) =
-    (serves : Bool) → IsEnding serves words may_fail known old new ending
+    (serves : Bool) → IsProgramEnding serves words may_fail known old new ending
 IsCourse words may_fail known input old new (c.Serve request left) = IsToServe words input left old new request
 
 -- whether the writer fails; it does not if the request is to serve
@@ -36,7 +36,8 @@ CourseSaysFault old new (c.Serve request left) = new ≡ old
 abbrev pub Concludes : Result Status Failure → Option (List ℕ) → Option (List ℕ) → Status → Type 0
 Concludes ending mid new status =
     (serves : Bool) (words : List (List ℕ)) (may_fail : Bool) (known old : Option (List ℕ))
-    → IsEnding serves words may_fail known old mid ending → IsOutcome serves words may_fail known old new status
+    → IsProgramEnding serves words may_fail known old mid ending
+    → IsProgramOutcome serves words may_fail known old new status
 
 -- and whether the writer fails
 abbrev pub ConcludesFault : Result Status Failure → Bool → Bool → Status → Type 0
@@ -46,7 +47,8 @@ ConcludesFault ending mid new status = (old : Bool) → EndsByFault old mid endi
 abbrev pub Finishes : Result Status Failure → Option (List ℕ) → Option (List ℕ) → ℕ → Type 0
 Finishes ending mid new number =
     (serves : Bool) (words : List (List ℕ)) (may_fail : Bool) (known old : Option (List ℕ))
-    → IsEnding serves words may_fail known old mid ending → IsRun serves words may_fail known old new number
+    → IsProgramEnding serves words may_fail known old mid ending
+    → IsProgramRun serves words may_fail known old new number
 
 abbrev pub FinishesFault : Result Status Failure → Bool → Bool → ℕ → Type 0
 FinishesFault ending mid new number = (old : Bool) → EndsByFault old mid ending → NumberSaysFault old new number

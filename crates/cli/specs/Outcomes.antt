@@ -16,7 +16,7 @@ use Rattle.commands.specs.declared.failure.Status.TheVariants.{Done, Refused, Co
 pub record Asked : Type 1 where
   pub Answers : List (List ℕ) → Status → Type 0
   pub Begins : List (List ℕ) → Type 0
-  pub HasFault : InputFault → Type 0
+  pub IsInputFault : InputFault → Type 0
   pub IsUnread : Type 0
   pub AsksHelp : Type 0
   pub IsMisworded : Type 0
@@ -29,11 +29,11 @@ module _ (asked : Asked) where
   -- the input has this fault
   abbrev pub IsReason : InputFault → Type 0
   IsReason i.Unread = asked.IsUnread
-  IsReason i.Parts = asked.HasFault i.Parts
-  IsReason (i.Catalog error) = asked.HasFault (i.Catalog error)
-  IsReason (i.Table name) = asked.HasFault (i.Table name)
-  IsReason (i.Certificate line error) = asked.HasFault (i.Certificate line error)
-  IsReason (i.Script error) = asked.HasFault (i.Script error)
+  IsReason i.Parts = asked.IsInputFault i.Parts
+  IsReason (i.Catalog error) = asked.IsInputFault (i.Catalog error)
+  IsReason (i.Table name) = asked.IsInputFault (i.Table name)
+  IsReason (i.Certificate line error) = asked.IsInputFault (i.Certificate line error)
+  IsReason (i.Script error) = asked.IsInputFault (i.Script error)
 
   -- ---- the right outputs, if no write fails
 

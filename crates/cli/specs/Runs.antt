@@ -13,7 +13,7 @@ abbrev pub asked_of_words : Bool → List (List ℕ) → Bool → Option (List �
 asked_of_words serves words may_fail known = record {
   Answers = AnswersWords serves words known may_fail;
   Begins = BeginsWords serves words known;
-  HasFault = HasInputFault serves words known;
+  IsInputFault = HasInputFault serves words known;
   IsUnread = LacksInput serves words may_fail known;
   AsksHelp = AsksHelp words;
   IsMisworded = IsMisworded serves words;
@@ -21,13 +21,13 @@ asked_of_words serves words may_fail known = record {
 
 module _ (serves : Bool) (words : List (List ℕ)) (may_fail : Bool) (known : Option (List ℕ)) where
   -- if the writer fails, a prefix of an output, and otherwise all of one that is right for the status
-  abbrev pub IsOutcome : Option (List ℕ) → Option (List ℕ) → Status → Type 0
-  IsOutcome old new status = outcomes.IsOutcome (asked_of_words serves words may_fail known) old new status
+  abbrev pub IsProgramOutcome : Option (List ℕ) → Option (List ℕ) → Status → Type 0
+  IsProgramOutcome old new status = outcomes.IsOutcome (asked_of_words serves words may_fail known) old new status
 
   -- the same of the number of a status
-  abbrev pub IsRun : Option (List ℕ) → Option (List ℕ) → ℕ → Type 0
-  IsRun old new number = outcomes.IsRun (asked_of_words serves words may_fail known) old new number
+  abbrev pub IsProgramRun : Option (List ℕ) → Option (List ℕ) → ℕ → Type 0
+  IsProgramRun old new number = outcomes.IsRun (asked_of_words serves words may_fail known) old new number
 
   -- what is written before the lines of a failure
-  abbrev pub IsEnding : Option (List ℕ) → Option (List ℕ) → Result Status Failure → Type 0
-  IsEnding old new result = outcomes.IsEnding (asked_of_words serves words may_fail known) old new result
+  abbrev pub IsProgramEnding : Option (List ℕ) → Option (List ℕ) → Result Status Failure → Type 0
+  IsProgramEnding old new result = outcomes.IsEnding (asked_of_words serves words may_fail known) old new result

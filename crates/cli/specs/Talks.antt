@@ -76,23 +76,24 @@ module _ (checked : CheckedOf) (limit : ℕ) where
     Viewing : (lines : List (List ℕ)) → IsView checked has lines → has.notes ≡ had.notes → IsTalkTold had has View lines
 
   -- A line is answered with these lines. A step may show the session more of the log.
-  pub data IsAnswer (had : SeatOf) (line : List ℕ) : List (List ℕ) → SeatOf → Type 0 where
-    NoText : (IsUtf8 line → ⊥) → IsAnswer had line (fault_line i.Unread ∷ []) had
+  pub data IsLineAnswer (had : SeatOf) (line : List ℕ) : List (List ℕ) → SeatOf → Type 0 where
+    NoText : (IsUtf8 line → ⊥) → IsLineAnswer had line (fault_line i.Unread ∷ []) had
     NoScript : (error : ReadError) → TellsScript (script_by checked.catalog.tables line) error
-        → IsAnswer had line (fault_line (i.Script error) ∷ []) had
+        → IsLineAnswer had line (fault_line (i.Script error) ∷ []) had
     Unfit : (steps : List LineOf) (error : ReadError) → script_by checked.catalog.tables line ≡ Ok steps
         → first_unfit steps ≡ Some error.place → kind_name error.kind ≡ codes "Expected"
-        → IsAnswer had line (fault_line (i.Script error) ∷ []) had
-    Empty : script_by checked.catalog.tables line ≡ Ok [] → IsAnswer had line [] had
+        → IsLineAnswer had line (fault_line (i.Script error) ∷ []) had
+    Empty : script_by checked.catalog.tables line ≡ Ok [] → IsLineAnswer had line [] had
     OneStep : (step : LineOf) (lines : List (List ℕ)) (has : SeatOf)
         → script_by checked.catalog.tables line ≡ Ok (step ∷ []) → IsTalkTold had has step.step lines
-        → StartsWith has.seen had.seen → IsAnswer had line lines has
+        → StartsWith has.seen had.seen → IsLineAnswer had line lines has
 
   -- Lines other than `QUIT;` are answered one after another.
   pub data AreAnswered (had : SeatOf) : List (List ℕ) → List (List ℕ) → SeatOf → Type 0 where
     Nothing : AreAnswered had [] [] had
     OneMore : (lines answers own : List (List ℕ)) (line : List ℕ) (mid has : SeatOf) → AreAnswered had lines answers mid
-        → line ≢ codes "QUIT;" → IsAnswer mid line own has → AreAnswered had (lines ++ line ∷ []) (answers ++ own) has
+        → line ≢ codes "QUIT;" → IsLineAnswer mid line own has
+        → AreAnswered had (lines ++ line ∷ []) (answers ++ own) has
 
   -- ---- whose lines are answered
 
@@ -125,7 +126,7 @@ module _ (checked : CheckedOf) (limit : ℕ) where
   -- a line is answered by a text
   pub record Answers (line : List ℕ) (had has : SeatOf) (text : List ℕ) : Type 0 where
     pub lines : List (List ℕ)
-    pub is : IsAnswer had line lines has
+    pub is : IsLineAnswer had line lines has
     pub text_is : text ≡ text_of lines
 
   -- a line is read, and its answer is written

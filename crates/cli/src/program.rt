@@ -10,7 +10,7 @@ ghost use Rattle.commands.specs.Simulate.Limits.{IsLogLimit};
 ghost use Rattle.cli.specs.Courses.{Concludes, ConcludesFault, CourseSaysFault, Finishes, FinishesFault, IsCourse, IsUnserved};
 ghost use Rattle.cli.specs.Outcomes.{NumberSaysFault};
 ghost use Rattle.cli.specs.Requests.{AnswersReader, AsksSockets, CanServe, EndsRequest};
-ghost use Rattle.cli.specs.Runs.{IsRun};
+ghost use Rattle.cli.specs.Runs.{IsProgramRun};
 ghost use Rattle.cli.specs.declared.requests.Request.TheVariants.{Serve};
 
 use crate::arguments::{Invocation, parse};
@@ -173,7 +173,7 @@ pub fn run<S: AsStr, I: Reader + Drop, W: Writer>(
     input: I,
     writer: &mut W,
 ) -> u8
-    ensures run { IsRun false (map S.text words.now) I.may_fail (I.remaining input) (W.contents writer.old)
+    ensures run { IsProgramRun false (map S.text words.now) I.may_fail (I.remaining input) (W.contents writer.old)
         (W.contents writer.new) result }
     ensures failed { NumberSaysFault (W.has_failed writer.old) (W.has_failed writer.new) result }
     ensures flushed { result ≢ 4 → W.is_flushed writer.new ≡ true }
@@ -249,7 +249,7 @@ pub fn run_serving<
         + Net<Listener = TcpListener, Stream = TcpStream>
         + Sync,
 >(rt: &R, words: &[S], input: I, writer: &mut W) -> u8
-    ensures run { IsRun true (map S.text words.now) I.may_fail (I.remaining input) (W.contents writer.old)
+    ensures run { IsProgramRun true (map S.text words.now) I.may_fail (I.remaining input) (W.contents writer.old)
         (W.contents writer.new) result }
     ensures failed { AsksSockets (map S.text words.now) ⊎ NumberSaysFault (W.has_failed writer.old)
         (W.has_failed writer.new) result }

@@ -4,7 +4,7 @@ use commands::{push_position, subscriber_name};
 use pub_catalog::Catalog;
 use senders::{Closed, End, Publishing, Served};
 use std::alloc::{AllocError, Global};
-use tables_log::Lsn;
+use tables_log::{Lsn, SlotNumber};
 
 /// How many commits of the log end at or before a position.
 fn commits_to(position: u64) -> u64 {
@@ -18,7 +18,7 @@ fn end_of(commits: u64) -> u64 {
 
 /// How many commits a client of the slot has or was sent: those before its start, and those that followed, unless a
 /// write failed, since then it is unknown how many of them were written. None if the connection was not for the slot.
-fn commits_sent(served: &Served, slot: usize) -> Option<u64> {
+fn commits_sent(served: &Served, slot: SlotNumber) -> Option<u64> {
     let start = served.start?;
     if served.slot != Some(slot) {
         return None;
@@ -31,7 +31,7 @@ fn commits_sent(served: &Served, slot: usize) -> Option<u64> {
 }
 
 /// The most commits that a client of the slot was sent; none if no stream of the slot was started.
-fn most_sent(served: &[Served], slot: usize) -> Option<u64> {
+fn most_sent(served: &[Served], slot: SlotNumber) -> Option<u64> {
     let mut most = None;
     for one in served {
         if let Some(sent) = commits_sent(one, slot) {

@@ -5,7 +5,7 @@ use Rattle.std.specs.Prelude.{Err, IsErrAnd, Ok, Result, None}
 use Rattle.pub_reader.specs.Statements.{catalog_by}
 use Rattle.sql_reader.specs.Written.{as_filter}
 use Rattle.commands.proofs.Writing.{ends_as}
-use Rattle.commands.specs.Make.Making.{EndsMaking, IsBegunMaking, IsMakeFault, IsMaking, finding_view, IsTrueOf, is_certificate, line_for, status_for, AreLines, NoTable, OneMore, AreFirstLines, AreSomeLines, WritesTable, StopsTable, WritesTables}
+use Rattle.commands.specs.Make.Making.{EndsMaking, IsBegunMaking, IsMakeFault, IsMaking, finding_view, IsTrueOf, is_certificate, line_for, status_for, AreTableLines, NoTable, OneMore, AreFirstTableLines, AreSomeTableLines, WritesTable, StopsTable, WritesTables}
 use Rattle.commands.specs.Parts.{cut_of}
 use Rattle.cert_maker.specs.Answers.{IfCert, IfCounter, IsAcceptedCert, IsCounter}
 use Rattle.cert_maker.specs.declared.made.Made.{Made}
@@ -65,7 +65,7 @@ module _ (catalog : CatalogOf Expr) where
   -- the lines of this many tables are written
   pub record IsSoFar (number : ℕ) (all : Bool) (old new : Option (List ℕ)) : Type 0 where
     pub lines : List (List ℕ)
-    pub are : AreLines catalog number all lines
+    pub are : AreTableLines catalog number all lines
     pub appends : Appends old new (text_of lines)
 
   pub none_written : (known : Option (List ℕ)) → IsSoFar 0 true known known
@@ -79,27 +79,27 @@ module _ (catalog : CatalogOf Expr) where
       let lines : List (List ℕ) = before.lines ++ line ∷ [] in
       record {
         lines = lines;
-        are = subst (λ (b : Bool). AreLines catalog (number + 1) (all && b) lines) (sym here.is)
+        are = subst (λ (b : Bool). AreTableLines catalog (number + 1) (all && b) lines) (sym here.is)
             (OneMore number all before.lines here.finding before.are here.true_of);
         appends = subst (λ (text : List ℕ). Appends old newer text) (sym (text_of-more before.lines line))
             (Appends-trans old new newer (text_of before.lines) (ended line) before.appends here.appends);
       }
 
   first_at : (number left : ℕ) (all : Bool) (lines : List (List ℕ)) → length catalog.tables ≡ number + left
-      → AreLines catalog number all lines → AreFirstLines catalog left lines (status_for all)
+      → AreTableLines catalog number all lines → AreFirstTableLines catalog left lines (status_for all)
   first_at number left all lines split are =
       record { number = number; all = all; split = split; are = are; goes_by = refl }
 
   some_at : (number : ℕ) (all : Bool) (lines : List (List ℕ)) → number < length catalog.tables
-      → AreLines catalog number all lines → AreSomeLines catalog lines
+      → AreTableLines catalog number all lines → AreSomeTableLines catalog lines
   some_at number all lines within are =
       let later : ℕ = length catalog.tables - suc number in
       let split : length catalog.tables ≡ number + (later + 1) = omega arith in
       record { later = later; status = status_for all; first = first_at number (later + 1) all lines split are }
 
   some_or_whole : (number left : ℕ) (all : Bool) (lines : List (List ℕ)) → length catalog.tables ≡ number + left
-      → AreLines catalog number all lines
-      → AreSomeLines catalog lines ⊎ ((status : Status) × AreFirstLines catalog 0 lines status)
+      → AreTableLines catalog number all lines
+      → AreSomeTableLines catalog lines ⊎ ((status : Status) × AreFirstTableLines catalog 0 lines status)
   some_or_whole number zero all lines split are = inr (status_for all, first_at number 0 all lines split are)
   some_or_whole number (suc left) all lines split are = inl (some_at number all lines (omega arith) are)
 
@@ -153,10 +153,10 @@ pub made : (input : List ℕ) (old new : Option (List ℕ)) (catalog : CatalogOf
     → catalog_by as_filter input ≡ Ok catalog
     → (result : Result Status Failure) → WritesTables catalog old new result → EndsMaking input old new result
 made input old new catalog whole reads result writes =
-    let of_tables : (left : ℕ) (lines : List (List ℕ)) (status : Status) → AreFirstLines catalog left lines status
+    let of_tables : (left : ℕ) (lines : List (List ℕ)) (status : Status) → AreFirstTableLines catalog left lines status
     → IsMaking input left lines status =
     λ left lines status first. record { catalog = catalog; whole = whole; reads = reads; tables = first } in
-    ends_as (AreFirstLines catalog 0) (IsMaking input 0) (AreSomeLines catalog)
+    ends_as (AreFirstTableLines catalog 0) (IsMaking input 0) (AreSomeTableLines catalog)
     (λ lines. (lines ≡ []) ⊎ IsBegunMaking input lines) (IsMakeFault input)
     (of_tables 0)
     (λ lines some. inr (record {

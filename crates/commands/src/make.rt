@@ -15,6 +15,7 @@ use crate::parts::cut;
 use crate::writer::Writer;
 use bumpalo::Bump;
 use cert_maker::{Made, make};
+use filter_tree::TableNumber;
 use pub_catalog::Catalog;
 use pub_reader::read_catalog;
 use replica_identity::{Plan, plan};
@@ -27,7 +28,7 @@ fn write_table<'a, W: Writer>(
     alloc: Global,
     catalog: &Catalog,
     plan: &Plan,
-    number: usize,
+    number: TableNumber,
     writer: &mut W,
 ) -> Result<bool, Failure<'a>>
     requires { plan_view plan.now ≡ plan_of (catalog_view catalog.now) }

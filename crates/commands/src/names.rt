@@ -6,8 +6,8 @@ ghost use Rattle.std.specs.String.{string_bytes};
 ghost use Rattle.pub_catalog.specs.CatalogView.{publication_view};
 ghost use Rattle.commands.specs.Names as spec;
 
-use filter_tree::{Column, Table};
-use pub_catalog::{Publication, Subscription};
+use filter_tree::{Column, Table, TableNumber};
+use pub_catalog::{Publication, SubscriberNumber, Subscription};
 use std::alloc::AllocError;
 
 /// The name of the publication of this number.
@@ -21,7 +21,7 @@ pub fn publication_name(publications: &[Publication], number: usize) -> &str
 }
 
 /// The name of the subscriber of this number, which is that of its subscription.
-pub fn subscriber_name(subscriptions: &[Subscription], number: usize) -> &str
+pub fn subscriber_name(subscriptions: &[Subscription], number: SubscriberNumber) -> &str
     ensures { result.now ≡ spec.subscriber_name subscriptions.now number }
 {
     match subscriptions.get(number) {
@@ -40,7 +40,7 @@ fn column_named(columns: &[Column], number: usize) -> &str
 }
 
 /// The name of a column of the table of this number.
-pub fn column_name(tables: &[Table], table: usize, number: usize) -> &str
+pub fn column_name(tables: &[Table], table: TableNumber, number: usize) -> &str
     ensures { result.now ≡ spec.plain_column tables.now table number }
 {
     match tables.get(table) {
@@ -67,7 +67,11 @@ fn push_named(line: &mut String, table: &Table) -> Result<(), AllocError>
 }
 
 /// Writes the name of the table of this number.
-pub fn push_table_name(line: &mut String, tables: &[Table], number: usize) -> Result<(), AllocError>
+pub fn push_table_name(
+    line: &mut String,
+    tables: &[Table],
+    number: TableNumber,
+) -> Result<(), AllocError>
     ensures { OnOk result (string_bytes line.new ≡ string_bytes line.old ++ spec.plain_table tables.now number) }
 {
     match tables.get(number) {
@@ -77,7 +81,11 @@ pub fn push_table_name(line: &mut String, tables: &[Table], number: usize) -> Re
 }
 
 /// Writes a space, and the name of the table of this number.
-pub fn push_table(line: &mut String, tables: &[Table], number: usize) -> Result<(), AllocError>
+pub fn push_table(
+    line: &mut String,
+    tables: &[Table],
+    number: TableNumber,
+) -> Result<(), AllocError>
     ensures { OnOk result (string_bytes line.new ≡ string_bytes line.old ++ spec.spaced
         (spec.plain_table tables.now number ∷ [])) }
 {

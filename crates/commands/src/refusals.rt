@@ -7,8 +7,8 @@ ghost use Rattle.commands.specs.Refusals as spec;
 ghost use Rattle.commands.specs.Names.{spaced};
 
 use crate::names::{column_name, publication_name, push_table, push_word, subscriber_name};
-use filter_tree::Table;
-use pub_catalog::Catalog;
+use filter_tree::{Table, TableNumber};
+use pub_catalog::{Catalog, SubscriberNumber};
 use shard_checker::{CheckError, Operation};
 use std::alloc::{AllocError, Global};
 
@@ -45,7 +45,7 @@ fn refusal_name(error: CheckError) -> &'static str
 fn push_node(
     line: &mut String,
     tables: &[Table],
-    table: usize,
+    table: TableNumber,
     node: usize,
 ) -> Result<(), AllocError>
     ensures { OnOk result (string_bytes line.new ≡ string_bytes line.old ++ spaced
@@ -59,9 +59,9 @@ fn push_node(
 fn push_owner(
     line: &mut String,
     catalog: &Catalog,
-    table: usize,
+    table: TableNumber,
     node: usize,
-    subscriber: usize,
+    subscriber: SubscriberNumber,
 ) -> Result<(), AllocError>
     ensures { OnOk result (string_bytes line.new ≡ string_bytes line.old ++ spaced
         (spec.owner_words (catalog_view catalog.now) table node subscriber)) }
@@ -78,7 +78,7 @@ fn push_entry(
     line: &mut String,
     catalog: &Catalog,
     publication: usize,
-    table: usize,
+    table: TableNumber,
 ) -> Result<(), AllocError>
     ensures { OnOk result (string_bytes line.new ≡ string_bytes line.old ++ spaced
         (spec.entry_words (catalog_view catalog.now) publication table)) }

@@ -27,7 +27,7 @@ use crate::simulate::answers::answer_text;
 use crate::simulate::views::view_text;
 use crate::verdicts::{lines_of, verdict_of, write_refused};
 use crate::writer::Writer;
-use pub_catalog::Catalog;
+use pub_catalog::{Catalog, SubscriberNumber};
 use pub_reader::{ErrorKind, Line, Step, read_catalog, read_script};
 use shard_checker::{CheckError, Checked};
 use shard_world::{Event, PeerEvent, World};
@@ -37,7 +37,7 @@ use std::sync::Arc;
 /// The action of the world that a step of a script requests.
 enum StepAction {
     Event(Event),
-    Pump(usize),
+    Pump(SubscriberNumber),
     View,
 }
 

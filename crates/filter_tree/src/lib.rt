@@ -30,7 +30,7 @@ pub use mask::Mask;
 pub use order::rows_are_ordered;
 pub use possibility::possible;
 pub use same::{same_atom, same_row, same_term};
-pub use table::{ColType, Column, Identity, Table, UniqueIndex};
+pub use table::{ColType, Column, Identity, Table, TableNumber, UniqueIndex};
 pub use text::Text;
 pub use tri::Tri;
 pub use validity::{MAX_TEXT_BYTES, RowFault, valid};

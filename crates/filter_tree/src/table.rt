@@ -3,6 +3,11 @@ ghost use Rattle.std.specs.Prelude.{◌≡◌};
 use crate::items::Items;
 use crate::text::Text;
 
+/// The number of a table in its catalog, from 0 in the order in which tables are created.
+///
+/// PostgreSQL 15, SQL Commands, CREATE TABLE.
+pub type TableNumber = usize;
+
 /// A column's data type.
 ///
 /// PostgreSQL 15, Chapter 8 Data Types.

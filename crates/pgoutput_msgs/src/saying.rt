@@ -10,19 +10,19 @@ ghost use Rattle.pgoutput_msgs.specs.Sinks.{TakesEach};
 ghost use Rattle.pgoutput_msgs.specs.Telling as spec;
 
 use crate::sink::MessageSink;
-use filter_tree::{Row, Table};
+use filter_tree::{Row, Table, TableNumber};
 use replica_identity::OldPart;
 use std::alloc::AllocError;
 
 /// Whether the Relation of the table was sent.
-fn is_told(relation_sent: &[bool], number: usize) -> bool
+fn is_told(relation_sent: &[bool], number: TableNumber) -> bool
     ensures { result ≡ slice_index_or relation_sent.now number false }
 {
     relation_sent.get(number).copied().unwrap_or(false)
 }
 
 #[tactic(auto, using(std::proofs::lemmas::List::set_past))]
-fn mark(relation_sent: &mut [bool], number: usize)
+fn mark(relation_sent: &mut [bool], number: TableNumber)
     ensures { relation_sent.new ≡ spec.mark_one relation_sent.old number }
 {
     if number < relation_sent.len() {
@@ -30,7 +30,7 @@ fn mark(relation_sent: &mut [bool], number: usize)
     }
 }
 
-fn table_at(tables: &[Table], number: usize) -> Option<&Table>
+fn table_at(tables: &[Table], number: TableNumber) -> Option<&Table>
     ensures { option_copied result ≡ slice_get tables.now number }
 {
     tables.get(number)
@@ -39,7 +39,7 @@ fn table_at(tables: &[Table], number: usize) -> Option<&Table>
 /// Sends the Relation of a table.
 fn say_new_relation<S: MessageSink>(
     tables: &[Table],
-    number: usize,
+    number: TableNumber,
     sink: &mut S,
 ) -> Result<(), AllocError>
     requires number { IsTableNumber number }
@@ -59,7 +59,7 @@ fn say_new_relation<S: MessageSink>(
 /// Sends the Relation of a table, if it was not sent before.
 fn say_relation<S: MessageSink>(
     tables: &[Table],
-    number: usize,
+    number: TableNumber,
     relation_sent: &[bool],
     sink: &mut S,
 ) -> Result<(), AllocError>
@@ -78,7 +78,7 @@ fn say_relation<S: MessageSink>(
 /// Sends the Relations of tables that were not sent before, in this order.
 pub(crate) fn say_relations<S: MessageSink>(
     tables: &[Table],
-    numbers: &[usize],
+    numbers: &[TableNumber],
     relation_sent: &mut [bool],
     sink: &mut S,
 ) -> Result<(), AllocError>
@@ -98,7 +98,7 @@ pub(crate) fn say_relations<S: MessageSink>(
 #[tactic(auto, unfolding(crate::specs::Telling::mark_by))]
 pub(crate) fn say_insert<S: MessageSink>(
     tables: &[Table],
-    table: usize,
+    table: TableNumber,
     new: &Row,
     relation_sent: &mut [bool],
     sink: &mut S,
@@ -118,7 +118,7 @@ pub(crate) fn say_insert<S: MessageSink>(
 #[tactic(auto, unfolding(crate::specs::Telling::mark_by))]
 pub(crate) fn say_update<S: MessageSink>(
     tables: &[Table],
-    table: usize,
+    table: TableNumber,
     old: &OldPart,
     new: &Row,
     relation_sent: &mut [bool],
@@ -138,7 +138,7 @@ pub(crate) fn say_update<S: MessageSink>(
 
 fn say_gone<S: MessageSink>(
     tables: &[Table],
-    table: usize,
+    table: TableNumber,
     old: &OldPart,
     relation_sent: &mut [bool],
     sink: &mut S,
@@ -159,7 +159,7 @@ fn say_gone<S: MessageSink>(
 /// Sends nothing if nothing is recorded of the row.
 pub(crate) fn say_delete<S: MessageSink>(
     tables: &[Table],
-    table: usize,
+    table: TableNumber,
     old: &OldPart,
     relation_sent: &mut [bool],
     sink: &mut S,
@@ -186,7 +186,7 @@ pub(crate) fn say_delete<S: MessageSink>(
 #[tactic(auto, unfolding(crate::specs::Telling::mark_by))]
 pub(crate) fn say_truncate<S: MessageSink>(
     tables: &[Table],
-    numbers: &[usize],
+    numbers: &[TableNumber],
     relation_sent: &mut [bool],
     sink: &mut S,
 ) -> Result<(), AllocError>

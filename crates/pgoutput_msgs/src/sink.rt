@@ -1,6 +1,6 @@
 //! What takes the messages that report changes to a subscriber.
 
-use filter_tree::{Row, Table};
+use filter_tree::{Row, Table, TableNumber};
 use replica_identity::OldPart;
 use std::alloc::AllocError;
 
@@ -21,31 +21,31 @@ pub trait MessageSink {
     ghost takes_one: { Self → Self → Msg → Type 0 };
 
     /// Takes the Relation of the table of this number. The only error is out of memory.
-    fn relation(&mut self, number: usize, table: &Table) -> Result<(), AllocError>
+    fn relation(&mut self, number: TableNumber, table: &Table) -> Result<(), AllocError>
         requires number { IsTableNumber number }
         requires limited { IsLimitedTable table.now }
         ensures { OnOk result (TakesEach takes_one self.old self.new (a_relation number (Some table.now))) };
 
     /// Takes the Insert of a row of the table of this number. The only error is out of memory.
-    fn insert(&mut self, table: usize, new: &Row) -> Result<(), AllocError>
+    fn insert(&mut self, table: TableNumber, new: &Row) -> Result<(), AllocError>
         requires { IsSendableChange (r.Insert table new.now) }
         ensures { OnOk result (TakesEach takes_one self.old self.new (message_of (r.Insert table new.now))) };
 
     /// Takes the Update of a row of the table of this number. The only error is out of memory.
-    fn update(&mut self, table: usize, old: &OldPart, new: &Row) -> Result<(), AllocError>
+    fn update(&mut self, table: TableNumber, old: &OldPart, new: &Row) -> Result<(), AllocError>
         requires { IsSendableChange (r.Update table (part_view old.now) new.now) }
         ensures { OnOk result
             (TakesEach takes_one self.old self.new (message_of (r.Update table (part_view old.now) new.now))) };
 
     /// Takes the Delete of a row of the table of this number; none if nothing is recorded of the row. The only error is
     /// out of memory.
-    fn delete(&mut self, table: usize, old: &OldPart) -> Result<(), AllocError>
+    fn delete(&mut self, table: TableNumber, old: &OldPart) -> Result<(), AllocError>
         requires { IsSendableChange (r.Delete table (part_view old.now)) }
         ensures { OnOk result (TakesEach takes_one self.old self.new
             (message_of (r.Delete table (part_view old.now)))) };
 
     /// Takes the Truncate of the tables of these numbers. The only error is out of memory.
-    fn truncate(&mut self, tables: &[usize]) -> Result<(), AllocError>
+    fn truncate(&mut self, tables: &[TableNumber]) -> Result<(), AllocError>
         requires { IsSendableChange (r.Truncate tables.now) }
         ensures { OnOk result (TakesEach takes_one self.old self.new (message_of (r.Truncate tables.now))) };
 }

@@ -11,7 +11,7 @@ use crate::sink::MessageSink;
 use crate::tables::{oid_of, relation_of};
 use crate::tuple::OldTuple;
 use crate::values::tuple_of;
-use filter_tree::{Items, Row, Table};
+use filter_tree::{Items, Row, Table, TableNumber};
 use replica_identity::OldPart;
 use std::alloc::{AllocError, Global};
 use std::marker::Model;
@@ -82,7 +82,7 @@ fn maybe_old_of(alloc: Global, part: &OldPart) -> Result<Option<OldTuple>, Alloc
     }
 }
 
-fn oids_of(alloc: Global, numbers: &[usize]) -> Result<Items<u32>, AllocError>
+fn oids_of(alloc: Global, numbers: &[TableNumber]) -> Result<Items<u32>, AllocError>
     requires { All IsTableNumber numbers.now }
     ensures { IfOk result (λ oids. oids ≡ map spec.oid_of numbers.now) }
 {
@@ -98,13 +98,13 @@ impl MessageSink for Spoken {
 
     ghost takes_one = { λ old new message. new ≡ old ++ message ∷ [] };
 
-    fn relation(&mut self, number: usize, table: &Table) -> Result<(), AllocError> {
+    fn relation(&mut self, number: TableNumber, table: &Table) -> Result<(), AllocError> {
         let relation = relation_of(self.allocator(), number, table)?;
         self.push(Msg::Relation(relation))?;
         Ok(())
     }
 
-    fn insert(&mut self, table: usize, new: &Row) -> Result<(), AllocError> {
+    fn insert(&mut self, table: TableNumber, new: &Row) -> Result<(), AllocError> {
         let new = tuple_of(self.allocator(), new)?;
         self.push(Msg::Insert {
             relation: oid_of(table),
@@ -113,7 +113,7 @@ impl MessageSink for Spoken {
         Ok(())
     }
 
-    fn update(&mut self, table: usize, old: &OldPart, new: &Row) -> Result<(), AllocError> {
+    fn update(&mut self, table: TableNumber, old: &OldPart, new: &Row) -> Result<(), AllocError> {
         let old = maybe_old_of(self.allocator(), old)?;
         let new = tuple_of(self.allocator(), new)?;
         self.push(Msg::Update {
@@ -124,7 +124,7 @@ impl MessageSink for Spoken {
         Ok(())
     }
 
-    fn delete(&mut self, table: usize, old: &OldPart) -> Result<(), AllocError> {
+    fn delete(&mut self, table: TableNumber, old: &OldPart) -> Result<(), AllocError> {
         match maybe_old_of(self.allocator(), old)? {
             None => Ok(()),
             Some(old) => {
@@ -137,7 +137,7 @@ impl MessageSink for Spoken {
         }
     }
 
-    fn truncate(&mut self, tables: &[usize]) -> Result<(), AllocError> {
+    fn truncate(&mut self, tables: &[TableNumber]) -> Result<(), AllocError> {
         let relations = oids_of(self.allocator(), tables)?;
         self.push(Msg::Truncate {
             options: 0,

@@ -10,6 +10,7 @@ ghost use Rattle.pgoutput_msgs.specs.Telling as spec;
 use crate::message::Msg;
 use crate::room::{put_byte, put_int32};
 use crate::tables::oid_of;
+use filter_tree::TableNumber;
 use std::alloc::AllocError;
 
 /// Appends the bytes that spell the Truncate message of tables, by their numbers from 0, without options: those that
@@ -17,7 +18,7 @@ use std::alloc::AllocError;
 /// `out` as it was. Room is made for the whole message at once.
 ///
 /// PostgreSQL 15, 55.9. Logical Replication Message Formats (Truncate).
-pub fn encode_truncate(tables: &[usize], out: &mut Vec<u8>) -> Result<(), AllocError>
+pub fn encode_truncate(tables: &[TableNumber], out: &mut Vec<u8>) -> Result<(), AllocError>
     requires few { length tables.now < 2 ^ 31 }
     requires numbers { All IsTableNumber tables.now }
     ensures ok { OnOk result (out.new.items
@@ -30,7 +31,7 @@ pub fn encode_truncate(tables: &[usize], out: &mut Vec<u8>) -> Result<(), AllocE
 }
 
 #[tactic(auto, using(crate::proofs::RowWriting::spelled_oids))]
-fn put_truncate(tables: &[usize], out: &mut Vec<u8>)
+fn put_truncate(tables: &[TableNumber], out: &mut Vec<u8>)
     requires few { length tables.now < 2 ^ 31 }
     requires numbers { All IsTableNumber tables.now }
     requires room { HasRoom out.old (spelling_of (Msg.Truncate 0 (map spec.oid_of tables.now))) }
@@ -43,7 +44,7 @@ fn put_truncate(tables: &[usize], out: &mut Vec<u8>)
 }
 
 #[tactic(auto, using(crate::proofs::Writing::writing_turns))]
-fn put_oids(tables: &[usize], out: &mut Vec<u8>)
+fn put_oids(tables: &[TableNumber], out: &mut Vec<u8>)
     requires numbers { All IsTableNumber tables.now }
     requires room { HasRoom out.old (flat_map spec.oid_spelling tables.now) }
     ensures { Puts out.old out.new (flat_map spec.oid_spelling tables.now) }

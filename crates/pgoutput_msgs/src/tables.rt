@@ -5,7 +5,7 @@ ghost use Rattle.pgoutput_msgs.specs.Ranges.{HasTextName, HasTextNames};
 ghost use Rattle.pgoutput_msgs.specs.Telling as spec;
 
 use crate::relation::{Relation, RelationColumn, ReplicaIdentity};
-use filter_tree::{ColType, Column, Identity, Items, Table, Text};
+use filter_tree::{ColType, Column, Identity, Items, Table, TableNumber, Text};
 use replica_identity::covered;
 use std::alloc::{AllocError, Global};
 
@@ -13,7 +13,7 @@ use std::alloc::{AllocError, Global};
 const FIRST_OID: u32 = 16_384;
 
 /// The OID of the table of this number, which is counted from 0: 16384 and the number. The OIDs are this project's own.
-pub fn oid_of(table: usize) -> u32
+pub fn oid_of(table: TableNumber) -> u32
     requires { table < 2 ^ 31 }
     ensures { result ≡ spec.oid_of table }
 {
@@ -72,7 +72,11 @@ fn column_of(alloc: Global, column: &Column, is_key: bool) -> Result<RelationCol
 /// marks those of the replica identity, under FULL all. Its names are UTF-8 (`texts`). The only error is out of memory.
 ///
 /// PostgreSQL 15, 55.9. Logical Replication Message Formats (Relation).
-pub fn relation_of(alloc: Global, number: usize, table: &Table) -> Result<Relation, AllocError>
+pub fn relation_of(
+    alloc: Global,
+    number: TableNumber,
+    table: &Table,
+) -> Result<Relation, AllocError>
     requires { number < 2 ^ 31 }
     ensures exact { IfOk result (λ relation. relation ≡ spec.relation_of number table.now) }
     ensures texts { IfOk result (λ relation. HasTextNames relation) }

@@ -20,7 +20,8 @@ use crate::saying::{say_delete, say_insert, say_truncate, say_update};
 use crate::sink::MessageSink;
 use crate::spoken::Spoken;
 use crate::transaction::{begin_message, commit_message};
-use filter_tree::Table;
+use filter_tree::{Table, TableNumber};
+use pub_catalog::SubscriberNumber;
 use replica_identity::{Change, Out, Plan, carries, transform};
 use row_owners::{OwnerSet, next_of};
 use shard_checker::Checked;
@@ -39,7 +40,7 @@ use tables_log::Commit;
 pub fn messages_of(
     alloc: Global,
     checked: &Checked,
-    subscriber: usize,
+    subscriber: SubscriberNumber,
     commit: &Commit,
     relation_sent: &mut [bool],
 ) -> Result<Vec<Msg>, AllocError>
@@ -102,7 +103,7 @@ fn tables_of(checked: &Checked) -> &[Table]
 pub fn tell_changes<S: MessageSink>(
     alloc: Global,
     checked: &Checked,
-    subscriber: usize,
+    subscriber: SubscriberNumber,
     commit: &Commit,
     owners: &[OwnerSet],
     relation_sent: &mut [bool],
@@ -131,7 +132,7 @@ pub fn tell_changes<S: MessageSink>(
 fn tell_each<S: MessageSink>(
     alloc: Global,
     checked: &Checked,
-    subscriber: usize,
+    subscriber: SubscriberNumber,
     changes: &[Change],
     owners: &[OwnerSet],
     relation_sent: &mut [bool],
@@ -164,7 +165,7 @@ fn tell_each<S: MessageSink>(
 fn tell_change<S: MessageSink>(
     alloc: Global,
     checked: &Checked,
-    subscriber: usize,
+    subscriber: SubscriberNumber,
     change: &Change,
     relation_sent: &mut [bool],
     sink: &mut S,
@@ -200,7 +201,7 @@ fn tell_change<S: MessageSink>(
 }
 
 /// The table of a change of rows.
-fn table_of(change: &Change) -> usize
+fn table_of(change: &Change) -> TableNumber
     requires { IsSendableChange (change_view change.now) }
     ensures exact { result ≡ outs.changed_table (change_view change.now) }
     ensures within { IsTableNumber result }
@@ -218,9 +219,9 @@ fn table_of(change: &Change) -> usize
 fn carried_of(
     alloc: Global,
     plan: &Plan,
-    subscriber: usize,
-    numbers: &[usize],
-) -> Result<Vec<usize>, AllocError>
+    subscriber: SubscriberNumber,
+    numbers: &[TableNumber],
+) -> Result<Vec<TableNumber>, AllocError>
     requires { All IsTableNumber numbers.now }
     ensures exact { IfOk result (λ carried. carried.items
         ≡ filter (takes_any (plan_view plan.now) subscriber) numbers.now) }

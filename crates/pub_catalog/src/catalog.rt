@@ -6,7 +6,13 @@ ghost use Rattle.pub_catalog.specs.CatalogLimits.{IsLimitedTable};
 ghost use Rattle.pub_catalog.specs.CatalogNames.{AreOwnNames, TakesKnown};
 ghost use Rattle.pub_catalog.specs.PublicationView.{publication_view};
 
-use filter_tree::{Filter, Items, Table, Text};
+use filter_tree::{Filter, Items, Table, TableNumber, Text};
+
+/// The number of a subscription in its catalog, from 0 in the order in which subscriptions are created. Its subscriber
+/// has the same number.
+///
+/// PostgreSQL 15, "Logical Replication", 31.2 Subscription.
+pub type SubscriberNumber = usize;
 
 /// The tables, the publications and the subscriptions of a catalog, each in the order in which they are created, so
 /// that each has a number from 0.
@@ -65,7 +71,7 @@ pub struct Publication {
 /// PostgreSQL 15, "Logical Replication", 31.3 Row Filters.
 #[derive(Drop)]
 pub struct Entry {
-    pub table: usize,
+    pub table: TableNumber,
     pub filter: Option<Filter>,
 }
 

@@ -5,5 +5,5 @@
 mod catalog;
 mod index_identity;
 
-pub use catalog::{Catalog, Entry, Operations, Publication, Subscription};
+pub use catalog::{Catalog, Entry, Operations, Publication, SubscriberNumber, Subscription};
 pub use index_identity::identifies;

@@ -33,7 +33,7 @@ use Rattle.pub_reader.specs.Indexes.{index_body, indexed_table, create_index}
 use Rattle.pub_reader.specs.Objects.{ObjectsOf, schema_by, schema_mentioned, is_entry_of, is_filtered, table_mentioned, limited, named_schema, current_schema, schema_object_by, schema_object, in_schema, taken_schema, filter_end, where_clause, filter_by, filter_clause, taken_table, table_object, taken_by, tables_by, after_tables, tables_object, object_of, object_by, object, first_by, first_object, objects}
 use Rattle.pub_reader.specs.Publications.{new_publication_name, all_tables, listed_objects, scope_by, scope, for_by, for_clause, create_publication}
 use Rattle.pub_reader.specs.Publishing.{parameters_clause}
-use Rattle.pub_reader.specs.Schemas.{known, create_schema, check_new_schema}
+use Rattle.pub_reader.specs.Schemas.{known_position, create_schema, check_new_schema}
 use Rattle.pub_reader.specs.Statements.{created_by, created, create, statement_by, statement, ended_statement, statements}
 use Rattle.pub_reader.specs.Subscriptions.{new_subscription_name, subscription_body, create_subscription}
 use Rattle.pub_reader.specs.TableNames.{known_table, name_in_schema, table_in_schema, table_named, table_number, new_name}
@@ -43,7 +43,7 @@ use Rattle.pub_reader.proofs.KeptIndexes.{length-identified, length-indexed}
 -- ---- tables that are found
 
 cond_within : (n m : ℕ) (called : PlacedName) (is : Bool) (ts : Items) → nat_lt n m ≡ is
-    → Gives (λ (found : ℕ). found < m) (with_rest (known called (cond is (Some n) None)) ts)
+    → Gives (λ (found : ℕ). found < m) (with_rest (known_position called (cond is (Some n) None)) ts)
 cond_within n m called true ts e = grind (arith, nat_tests)
 cond_within n m called false ts e = tt
 
@@ -52,7 +52,7 @@ module _ (tables : List Table) where
   IsThere number = number < length tables
 
   position-there : (p : Table → Bool) (called : PlacedName) (ts : Items)
-      → Gives IsThere (with_rest (known called (position p tables)) ts)
+      → Gives IsThere (with_rest (known_position called (position p tables)) ts)
   position-there p called ts =
       cond_within (position_or_len p tables) (length tables) called
       (nat_lt (position_or_len p tables) (length tables)) ts refl

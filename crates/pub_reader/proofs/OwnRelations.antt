@@ -16,20 +16,20 @@ use Rattle.filter_tree.specs.declared.table.Table.{Table}
 use Rattle.filter_tree.specs.declared.table.UniqueIndex.{UniqueIndex}
 use Rattle.pub_catalog.specs.Catalogs.{schema_at, identified, indexed}
 use Rattle.pub_reader.specs.Drafts.{find_index, has_name, find_relation}
-use Rattle.pub_reader.specs.WellFormed.{relations_of, relations_in, same_relation}
+use Rattle.pub_reader.specs.WellFormed.{names_of_table, names_of_tables, same_name}
 use Rattle.pub_reader.proofs.OwnNames.{same_bytes}
 use Rattle.pub_reader.proofs.Positions.{position-none, list_any-map}
 
 abbrev Relation : Type 0
 Relation = List ℕ × List ℕ
 
-same_relations : IsEquivalence same_relation
-same_relations =
+same_names : IsEquivalence same_name
+same_names =
     and_equiv (on_equiv (λ (relation : Relation). relation.0) same_bytes)
     (on_equiv (λ (relation : Relation). relation.1) same_bytes)
 
 abbrev pub AreOwnRelations : List Table → Type 0
-AreOwnRelations tables = IsDistinct same_relation (relations_in tables)
+AreOwnRelations tables = IsDistinct same_name (names_of_tables tables)
 
 -- ---- a name that is free
 
@@ -51,13 +51,13 @@ not_there None h = refl
 not_there (Some number) h = absurd cc
 
 free_of : (schema text : List ℕ) (table : Table) → has_name schema text table ≡ false
-    → list_any (same_relation (schema, text)) (relations_of table) ≡ false
+    → list_any (same_name (schema, text)) (names_of_table table) ≡ false
 free_of schema text table h =
     let free = is_free_by (bytes_eq schema table.schema) (bytes_eq text table.name)
     (is_some (find_index text table.indexes)) h in
-    let indexes : list_any (same_relation (schema, text))
+    let indexes : list_any (same_name (schema, text))
     (map (λ (index : UniqueIndex). (table.schema, index.name)) table.indexes) ≡ false =
-    list_any-map (same_relation (schema, text)) (λ (index : UniqueIndex). (table.schema, index.name)) table.indexes
+    list_any-map (same_name (schema, text)) (λ (index : UniqueIndex). (table.schema, index.name)) table.indexes
     ∙ none_named (bytes_eq schema table.schema) text table.indexes
     (λ e. position-none (λ (index : UniqueIndex). bytes_eq text index.name) table.indexes
     (not_there (find_index text table.indexes) (free.1 e))) in
@@ -68,27 +68,27 @@ neither true q h = absurd cc
 neither false q h = (refl, h)
 
 free_in : (schema text : List ℕ) (tables : List Table) → list_any (has_name schema text) tables ≡ false
-    → list_any (same_relation (schema, text)) (relations_in tables) ≡ false
+    → list_any (same_name (schema, text)) (names_of_tables tables) ≡ false
 free_in schema text [] h = refl
 free_in schema text (table ∷ tables) h =
     let free = neither (has_name schema text table) (list_any (has_name schema text) tables) h in
-    list_any-append (same_relation (schema, text)) (relations_of table) (relations_in tables)
-    ∙ ap (λ b. b || list_any (same_relation (schema, text)) (relations_in tables)) (free_of schema text table free.0)
+    list_any-append (same_name (schema, text)) (names_of_table table) (names_of_tables tables)
+    ∙ ap (λ b. b || list_any (same_name (schema, text)) (names_of_tables tables)) (free_of schema text table free.0)
     ∙ free_in schema text tables free.1
 
 -- a name that is not found is that of no table and no index of the schema
 is_free : (schema text : List ℕ) (tables : List Table) → find_relation schema text tables ≡ None
-    → list_any (same_relation (schema, text)) (relations_in tables) ≡ false
+    → list_any (same_name (schema, text)) (names_of_tables tables) ≡ false
 is_free schema text tables h = free_in schema text tables (position-none (has_name schema text) tables h)
 
 -- ---- one more table
 
-relations-append : (tables : List Table) (table : Table)
-    → relations_in (tables ++ table ∷ []) ≡ relations_in tables ++ relations_in (table ∷ [])
-relations-append [] table = refl
-relations-append (first ∷ tables) table =
-    ap (λ rest. relations_of first ++ rest) (relations-append tables table)
-    ∙ sym (append_assoc (relations_of first) (relations_in tables) (relations_in (table ∷ [])))
+names_of_tables-append : (tables : List Table) (table : Table)
+    → names_of_tables (tables ++ table ∷ []) ≡ names_of_tables tables ++ names_of_tables (table ∷ [])
+names_of_tables-append [] table = refl
+names_of_tables-append (first ∷ tables) table =
+    ap (λ rest. names_of_table first ++ rest) (names_of_tables-append tables table)
+    ∙ sym (append_assoc (names_of_table first) (names_of_tables tables) (names_of_tables (table ∷ [])))
 
 -- a new table, which has no index
 pub table-own : (tables : List Table) (table : Table) → table.indexes ≡ []
@@ -96,41 +96,41 @@ pub table-own : (tables : List Table) (table : Table) → table.indexes ≡ []
     → AreOwnRelations (tables ++ table ∷ [])
 table-own tables table none free own =
     let one : Relation = (table.schema, table.name) in
-    let alone : relations_in (table ∷ []) ≡ one ∷ [] =
+    let alone : names_of_tables (table ∷ []) ≡ one ∷ [] =
     ap (λ indexes. (one ∷ map (λ (index : UniqueIndex). (table.schema, index.name)) indexes) ++ []) none in
-    let all : relations_in tables ++ one ∷ [] ≡ relations_in (tables ++ table ∷ []) =
-    ap (λ rest. relations_in tables ++ rest) (sym alone) ∙ sym (relations-append tables table) in
-    subst (IsDistinct same_relation) all
-    (IsDistinct-push same_relations (relations_in tables) one own (is_free table.schema table.name tables free))
+    let all : names_of_tables tables ++ one ∷ [] ≡ names_of_tables (tables ++ table ∷ []) =
+    ap (λ rest. names_of_tables tables ++ rest) (sym alone) ∙ sym (names_of_tables-append tables table) in
+    subst (IsDistinct same_name) all
+    (IsDistinct-push same_names (names_of_tables tables) one own (is_free table.schema table.name tables free))
 
 -- ---- one more index
 
 -- the names are those before, with one more
 one_more : (tables : List Table) (number : ℕ) (index : UniqueIndex) → number < length tables
-    → IsPermutation ((schema_at tables number, index.name) ∷ relations_in tables)
-    (relations_in (indexed tables number index))
+    → IsPermutation ((schema_at tables number, index.name) ∷ names_of_tables tables)
+    (names_of_tables (indexed tables number index))
 one_more [] number index within = absurd (omega arith)
 one_more (table ∷ tables) zero index within =
     let one : Relation = (table.schema, index.name) in
     let of : UniqueIndex → Relation = λ other. (table.schema, other.name) in
     let first : Relation = (table.schema, table.name) in
-    let all : relations_of table ++ (one ∷ relations_in tables)
-    ≡ relations_in (indexed (table ∷ tables) zero index) =
-    sym (append_assoc (relations_of table) (one ∷ []) (relations_in tables))
-    ∙ ap (λ names. (first ∷ names) ++ relations_in tables) (sym (map-append of table.indexes (index ∷ []))) in
-    subst (IsPermutation (one ∷ (relations_of table ++ relations_in tables))) all
-    (IsPermutation-sym (relations_of table ++ (one ∷ relations_in tables))
-    (one ∷ (relations_of table ++ relations_in tables))
-    (IsPermutation-middle (relations_of table) one (relations_in tables)))
+    let all : names_of_table table ++ (one ∷ names_of_tables tables)
+    ≡ names_of_tables (indexed (table ∷ tables) zero index) =
+    sym (append_assoc (names_of_table table) (one ∷ []) (names_of_tables tables))
+    ∙ ap (λ names. (first ∷ names) ++ names_of_tables tables) (sym (map-append of table.indexes (index ∷ []))) in
+    subst (IsPermutation (one ∷ (names_of_table table ++ names_of_tables tables))) all
+    (IsPermutation-sym (names_of_table table ++ (one ∷ names_of_tables tables))
+    (one ∷ (names_of_table table ++ names_of_tables tables))
+    (IsPermutation-middle (names_of_table table) one (names_of_tables tables)))
 one_more (table ∷ tables) (suc number) index within =
     let one : Relation = (schema_at tables number, index.name) in
-    let later = relations_in (indexed tables number index) in
-    IsPermutation-trans (one ∷ (relations_of table ++ relations_in tables))
-    (relations_of table ++ (one ∷ relations_in tables)) (relations_of table ++ later)
-    (IsPermutation-sym (relations_of table ++ (one ∷ relations_in tables))
-    (one ∷ (relations_of table ++ relations_in tables))
-    (IsPermutation-middle (relations_of table) one (relations_in tables)))
-    (IsPermutation-append_right (relations_of table) (one ∷ relations_in tables) later
+    let later = names_of_tables (indexed tables number index) in
+    IsPermutation-trans (one ∷ (names_of_table table ++ names_of_tables tables))
+    (names_of_table table ++ (one ∷ names_of_tables tables)) (names_of_table table ++ later)
+    (IsPermutation-sym (names_of_table table ++ (one ∷ names_of_tables tables))
+    (one ∷ (names_of_table table ++ names_of_tables tables))
+    (IsPermutation-middle (names_of_table table) one (names_of_tables tables)))
+    (IsPermutation-append_right (names_of_table table) (one ∷ names_of_tables tables) later
     (one_more tables number index (omega arith)))
 
 pub index-own : (tables : List Table) (number : ℕ) (index : UniqueIndex) → number < length tables
@@ -138,26 +138,26 @@ pub index-own : (tables : List Table) (number : ℕ) (index : UniqueIndex) → n
     → AreOwnRelations (indexed tables number index)
 index-own tables number index within free own =
     let one : Relation = (schema_at tables number, index.name) in
-    let pushed : IsDistinct same_relation (relations_in tables ++ one ∷ []) =
-    IsDistinct-push same_relations (relations_in tables) one own
+    let pushed : IsDistinct same_name (names_of_tables tables ++ one ∷ []) =
+    IsDistinct-push same_names (names_of_tables tables) one own
     (is_free (schema_at tables number) index.name tables free) in
-    let moved : IsPermutation (relations_in tables ++ one ∷ []) (relations_in (indexed tables number index)) =
-    IsPermutation-trans (relations_in tables ++ one ∷ []) (one ∷ relations_in tables)
-    (relations_in (indexed tables number index)) (IsPermutation-to_front (relations_in tables) one)
+    let moved : IsPermutation (names_of_tables tables ++ one ∷ []) (names_of_tables (indexed tables number index)) =
+    IsPermutation-trans (names_of_tables tables ++ one ∷ []) (one ∷ names_of_tables tables)
+    (names_of_tables (indexed tables number index)) (IsPermutation-to_front (names_of_tables tables) one)
     (one_more tables number index within) in
-    IsDistinct-IsPermutation same_relation same_relations.symm (relations_in tables ++ one ∷ [])
-    (relations_in (indexed tables number index)) moved pushed
+    IsDistinct-IsPermutation same_name same_names.symm (names_of_tables tables ++ one ∷ [])
+    (names_of_tables (indexed tables number index)) moved pushed
 
 -- ---- an identity
 
-relations-identified : (tables : List Table) (number : ℕ) (identity : Identity)
-    → relations_in (identified tables number identity) ≡ relations_in tables
-relations-identified [] number identity = refl
-relations-identified (table ∷ tables) zero identity = refl
-relations-identified (table ∷ tables) (suc number) identity =
-    ap (λ rest. relations_of table ++ rest) (relations-identified tables number identity)
+names_of_tables-identified : (tables : List Table) (number : ℕ) (identity : Identity)
+    → names_of_tables (identified tables number identity) ≡ names_of_tables tables
+names_of_tables-identified [] number identity = refl
+names_of_tables-identified (table ∷ tables) zero identity = refl
+names_of_tables-identified (table ∷ tables) (suc number) identity =
+    ap (λ rest. names_of_table table ++ rest) (names_of_tables-identified tables number identity)
 
 pub identity-own : (tables : List Table) (number : ℕ) (identity : Identity) → AreOwnRelations tables
     → AreOwnRelations (identified tables number identity)
 identity-own tables number identity own =
-    subst (IsDistinct same_relation) (sym (relations-identified tables number identity)) own
+    subst (IsDistinct same_name) (sym (names_of_tables-identified tables number identity)) own

@@ -7,9 +7,9 @@ use Rattle.sql_reader.specs.declared.error.Limit.{Limit}
 use Rattle.pub_reader.specs.Drafts.{DraftOf, find_schema, with_name}
 
 -- the position of what has a name, which must exist
-abbrev pub known : PlacedName → Option ℕ → Verdict ℕ
-known called (Some number) = Ok number
-known called None = Err (fault called.place w.UnknownName)
+abbrev pub known_position : PlacedName → Option ℕ → Verdict ℕ
+known_position called (Some number) = Ok number
+known_position called None = Err (fault called.place w.UnknownName)
 
 -- a new name is not taken, and there is room for one more
 abbrev pub fresh : PlacedName → Option ℕ → Bool → Limit → Verdict (Unit {0})
@@ -19,7 +19,7 @@ fresh called found is_full limit =
 
 -- a schema that was created before
 unfoldable pub known_schema : List (List ℕ) → PlacedName → Verdict ℕ
-known_schema schemas called = known called (find_schema called.text schemas)
+known_schema schemas called = known_position called (find_schema called.text schemas)
 
 -- a new schema has a new name
 unfoldable pub check_new_schema : List (List ℕ) → PlacedName → Verdict (Unit {0})

@@ -11,12 +11,12 @@ use Rattle.sql_reader.specs.declared.error.Limit.TheVariants.{Tables}
 use Rattle.sql_reader.specs.Columns.{unsupported}
 use Rattle.pub_reader.specs.declared.table_name.NewName.{NewName}
 use Rattle.pub_reader.specs.Drafts.{DraftOf, public_schema, find_table, find_relation}
-use Rattle.pub_reader.specs.Schemas.{fresh, known, known_schema}
+use Rattle.pub_reader.specs.Schemas.{fresh, known_position, known_schema}
 
 -- ---- a table that was created before
 
 unfoldable pub known_table : List Table → List ℕ → PlacedName → Verdict ℕ
-known_table tables schema called = known called (find_table schema called.text tables)
+known_table tables schema called = known_position called (find_table schema called.text tables)
 
 -- a dot and a name, after the name of a schema
 unfoldable pub name_in_schema : List (List ℕ) → PlacedName → Rule PlacedName

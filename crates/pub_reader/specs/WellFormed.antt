@@ -23,15 +23,15 @@ use Rattle.pub_reader.specs.Statements.{catalog_by}
 -- ---- names
 
 -- the schema and the name of a table, and those of its unique indexes, which are in the same schema
-abbrev pub relations_of : Table → List (List ℕ × List ℕ)
-relations_of table = (table.schema, table.name) ∷ map (λ index. (table.schema, index.name)) table.indexes
+abbrev pub names_of_table : Table → List (List ℕ × List ℕ)
+names_of_table table = (table.schema, table.name) ∷ map (λ index. (table.schema, index.name)) table.indexes
 
-abbrev pub relations_in : List Table → List (List ℕ × List ℕ)
-relations_in [] = []
-relations_in (table ∷ tables) = relations_of table ++ relations_in tables
+abbrev pub names_of_tables : List Table → List (List ℕ × List ℕ)
+names_of_tables [] = []
+names_of_tables (table ∷ tables) = names_of_table table ++ names_of_tables tables
 
-abbrev pub same_relation : List ℕ × List ℕ → List ℕ × List ℕ → Bool
-same_relation one other = bytes_eq one.0 other.0 && bytes_eq one.1 other.1
+abbrev pub same_name : List ℕ × List ℕ → List ℕ × List ℕ → Bool
+same_name one other = bytes_eq one.0 other.0 && bytes_eq one.1 other.1
 
 -- ---- tables
 
@@ -100,7 +100,7 @@ pub record IsWellFormedEntry (tables : List Table) (entry : EntryOf Expr) : Type
 
 -- no table and no index has the name of another one of its schema
 pub record IsWellFormed (catalog : CatalogOf Expr) : Type 0 where
-  pub named : IsDistinct same_relation (relations_in catalog.tables)
+  pub named : IsDistinct same_name (names_of_tables catalog.tables)
   pub tables : All IsWellFormedTable catalog.tables
   pub entries : All (λ publication. All (IsWellFormedEntry catalog.tables) publication.entries) catalog.publications
 

@@ -1,7 +1,7 @@
 //! What a publication covers, while the catalog is being read.
 
 use crate::names::Names;
-use filter_tree::{Table, Text};
+use filter_tree::{Table, TableNumber, Text};
 use pub_catalog::Entry;
 use sql_reader::{ErrorKind, ReadError};
 use std::alloc::{AllocError, Global};
@@ -57,7 +57,7 @@ impl Coverage {
     }
 
     /// Whether a table is named.
-    fn has_table(&self, number: usize) -> bool
+    fn has_table(&self, number: TableNumber) -> bool
         ensures { result ≡ list_any (spec.is_entry_of number) (coverage_view self.now).entries }
     {
         for entry in &self.entries {
@@ -69,7 +69,7 @@ impl Coverage {
     }
 
     /// Whether a table is named with a filter.
-    fn has_filter(&self, number: usize) -> bool
+    fn has_filter(&self, number: TableNumber) -> bool
         ensures { result ≡ list_any (spec.is_filtered number) (coverage_view self.now).entries }
     {
         for entry in &self.entries {

@@ -8,8 +8,8 @@ use crate::filters::add_filters;
 use crate::names::{Names, check_new, known_number};
 use crate::resolution::resolved;
 use crate::table_name::NewName;
-use filter_tree::{Column, Filter, Identity, Table, Text, UniqueIndex};
-use pub_catalog::{Catalog, Operations, Publication, Subscription};
+use filter_tree::{Column, Filter, Identity, Table, TableNumber, Text, UniqueIndex};
+use pub_catalog::{Catalog, Operations, Publication, SubscriberNumber, Subscription};
 use sql_reader::{ErrorKind, Limit, PlacedName, ReadError};
 use std::alloc::{AllocError, Global};
 
@@ -75,7 +75,7 @@ impl Draft {
     ghost use Rattle.pub_reader.specs.DraftView.{draft_view, draft_publication_view};
     ghost use Rattle.pub_reader.specs.Indexes.{check_new_index};
     ghost use Rattle.pub_reader.specs.Publications.{check_new_publication};
-    ghost use Rattle.pub_reader.specs.Schemas.{known, check_new_schema, known_schema};
+    ghost use Rattle.pub_reader.specs.Schemas.{known_position, check_new_schema, known_schema};
     ghost use Rattle.pub_reader.specs.Subscriptions.{check_new_subscription};
     ghost use Rattle.pub_reader.specs.TableNames.{check_new_table, known_table};
 
@@ -127,7 +127,7 @@ impl Draft {
     }
 
     /// The number of the table with a schema and a name.
-    fn find_table(&self, schema: &str, name: &str) -> Option<usize>
+    fn find_table(&self, schema: &str, name: &str) -> Option<TableNumber>
         ensures value { result ≡ spec.find_table schema.now name.now (draft_view self.now).tables }
         ensures within { IfSome result (λ n. n < length (draft_view self.now).tables) }
     {
@@ -137,7 +137,7 @@ impl Draft {
 
     /// The number of the table that has a name in a schema, or that has an index of this name: tables and indexes share
     /// their names.
-    fn find_relation(&self, schema: &str, name: &str) -> Option<usize>
+    fn find_relation(&self, schema: &str, name: &str) -> Option<TableNumber>
         ensures { result ≡ spec.find_relation schema.now name.now (draft_view self.now).tables }
     {
         self.tables
@@ -153,7 +153,7 @@ impl Draft {
     }
 
     /// The number of the subscription with a name.
-    fn find_subscription(&self, name: &str) -> Option<usize>
+    fn find_subscription(&self, name: &str) -> Option<SubscriberNumber>
         ensures { result ≡ spec.find_subscription name.now (draft_view self.now).subscriptions }
     {
         self.subscription_names.find(name)
@@ -176,7 +176,7 @@ impl Draft {
     /// Refuses an index of the table of this number, if its name is taken by a table or an index of the table's schema,
     /// or if it is one too many.
     #[tactic(auto, unfolding(crate::specs::Indexes::check_new_index))]
-    pub fn check_new_index(&self, number: usize, name: &PlacedName) -> Result<(), ReadError>
+    pub fn check_new_index(&self, number: TableNumber, name: &PlacedName) -> Result<(), ReadError>
         requires { number < length (draft_view self.now).tables }
         ensures { Answers (λ u. u) (check_new_index (draft_view self.now).tables number name.now) result }
     {
@@ -221,7 +221,7 @@ impl Draft {
 
     /// The number of a table that was created before.
     #[tactic(auto, unfolding(crate::specs::TableNames::known_table))]
-    pub fn known_table(&self, schema: &str, name: &PlacedName) -> Result<usize, ReadError>
+    pub fn known_table(&self, schema: &str, name: &PlacedName) -> Result<TableNumber, ReadError>
         ensures answer { Answers (λ n. n) (known_table (draft_view self.now).tables schema.now name.now) result }
         ensures within { IfOk result (λ n. n < length (draft_view self.now).tables) }
     {
@@ -231,14 +231,14 @@ impl Draft {
     /// The number of a publication that was created before.
     pub fn known_publication(&self, name: &PlacedName) -> Result<usize, ReadError>
         ensures { Answers (λ n. n)
-            (known name.now (spec.find_publication name.now.text (draft_view self.now).publications)) result }
+            (known_position name.now (spec.find_publication name.now.text (draft_view self.now).publications)) result }
     {
         known_number(name, self.find_publication(name.text.as_str()))
     }
 
     /// The schema of a table.
     #[tactic(auto, using(crate::proofs::TableLemmas::table_numbers))]
-    fn schema(&self, number: usize) -> &str
+    fn schema(&self, number: TableNumber) -> &str
         requires { number < length (draft_view self.now).tables }
         ensures { result.now ≡ schema_at (draft_view self.now).tables number }
     {
@@ -247,7 +247,7 @@ impl Draft {
 
     /// The columns of a table.
     #[tactic(auto, using(crate::proofs::TableLemmas::table_numbers))]
-    pub fn columns(&self, number: usize) -> &[Column]
+    pub fn columns(&self, number: TableNumber) -> &[Column]
         requires { number < length (draft_view self.now).tables }
         ensures { result.now ≡ columns_at (draft_view self.now).tables number }
     {
@@ -256,7 +256,7 @@ impl Draft {
 
     /// The unique indexes of a table.
     #[tactic(auto, using(crate::proofs::TableLemmas::table_numbers))]
-    pub fn indexes(&self, number: usize) -> &[UniqueIndex]
+    pub fn indexes(&self, number: TableNumber) -> &[UniqueIndex]
         requires { number < length (draft_view self.now).tables }
         ensures { result.now ≡ indexes_at (draft_view self.now).tables number }
     {
@@ -264,7 +264,7 @@ impl Draft {
     }
 
     /// The filters on a table.
-    pub fn filters(&self, alloc: Global, number: usize) -> Result<Vec<&Filter>, AllocError>
+    pub fn filters(&self, alloc: Global, number: TableNumber) -> Result<Vec<&Filter>, AllocError>
         ensures { IfOk result (λ filters. map (λ f. expr_view f.now) filters.items
             ≡ spec.filters_on (λ f. f) number (draft_view self.now).publications) }
     {
@@ -324,7 +324,7 @@ impl Draft {
 
     /// Gives a table another replica identity.
     #[tactic(auto, using(crate::proofs::TableLemmas::table_numbers))]
-    pub fn identify(&mut self, number: usize, identity: Identity)
+    pub fn identify(&mut self, number: TableNumber, identity: Identity)
         requires { number < length (draft_view self.old).tables }
         ensures { draft_view self.new ≡ record (draft_view self.old)
             { tables = identified (draft_view self.old).tables number identity } }
@@ -334,7 +334,7 @@ impl Draft {
 
     /// Gives a table one more unique index.
     #[tactic(auto, using(crate::proofs::TableLemmas::table_numbers))]
-    pub fn add_index(&mut self, number: usize, index: UniqueIndex) -> Result<(), AllocError>
+    pub fn add_index(&mut self, number: TableNumber, index: UniqueIndex) -> Result<(), AllocError>
         requires { number < length (draft_view self.old).tables }
         ensures { OnOk result (draft_view self.new ≡ record (draft_view self.old)
             { tables = indexed (draft_view self.old).tables number index }) }

@@ -12,7 +12,7 @@ ghost use Rattle.pub_reader.specs.Objects as spec;
 use crate::coverage::Coverage;
 use crate::draft::Draft;
 use crate::filters::add_filters;
-use filter_tree::Filter;
+use filter_tree::{Filter, TableNumber};
 use sql_reader::{ErrorKind, Item, Keyword, ReadError, Reader, exceeded_limit, read_filter};
 use std::alloc::Global;
 
@@ -35,7 +35,7 @@ fn within_limits(
     alloc: Global,
     draft: &Draft,
     coverage: &Coverage,
-    number: usize,
+    number: TableNumber,
     place: usize,
     filter: &Filter,
 ) -> Result<(), ReadError>
@@ -55,7 +55,7 @@ fn ended(
     alloc: Global,
     draft: &Draft,
     coverage: &Coverage,
-    number: usize,
+    number: TableNumber,
     place: usize,
     filter: Filter,
 ) -> Result<Option<Filter>, ReadError>
@@ -75,7 +75,7 @@ fn where_clause(
     alloc: Global,
     draft: &Draft,
     coverage: &Coverage,
-    number: usize,
+    number: TableNumber,
 ) -> Result<Option<Filter>, ReadError>
     requires { number < length (draft_view draft.now).tables }
     ensures { TakesSome (λ filter. option_map expr_view filter)
@@ -94,7 +94,7 @@ pub fn filter_clause(
     alloc: Global,
     draft: &Draft,
     coverage: &Coverage,
-    number: usize,
+    number: TableNumber,
 ) -> Result<Option<Filter>, ReadError>
     requires { number < length (draft_view draft.now).tables }
     ensures { Takes (λ filter. option_map expr_view filter)

@@ -5,7 +5,7 @@ ghost use Rattle.filter_tree.specs.Shape.{expr_view};
 ghost use Rattle.pub_catalog.specs.CatalogView.{entry_view};
 ghost use Rattle.pub_reader.specs.Drafts as spec;
 
-use filter_tree::Filter;
+use filter_tree::{Filter, TableNumber};
 use pub_catalog::Entry;
 use std::alloc::AllocError;
 
@@ -13,7 +13,7 @@ use std::alloc::AllocError;
 fn add_filter<'a>(
     filters: &mut Vec<&'a Filter>,
     entry: &'a Entry,
-    number: usize,
+    number: TableNumber,
 ) -> Result<(), AllocError>
     ensures { OnOk result
         (map (λ f. expr_view f.now) filters.new.items ≡ map (λ f. expr_view f.now) filters.old.items
@@ -32,7 +32,7 @@ fn add_filter<'a>(
 pub fn add_filters<'a>(
     filters: &mut Vec<&'a Filter>,
     entries: &'a [Entry],
-    number: usize,
+    number: TableNumber,
 ) -> Result<(), AllocError>
     ensures { OnOk result
         (map (λ f. expr_view f.now) filters.new.items ≡ map (λ f. expr_view f.now) filters.old.items

@@ -7,7 +7,7 @@ ghost use Rattle.sql_reader.specs.ParsingContracts.{Takes, TakesSome, to_read, R
 
 use crate::draft::Draft;
 use crate::table_name::table_number;
-use filter_tree::{Column, Items, UniqueIndex};
+use filter_tree::{Column, Items, TableNumber, UniqueIndex};
 use sql_reader::{
     ErrorKind, FoundColumn, Item, Keyword, Omitted, PlacedName, ReadError, Reader, known_column,
     read_name,
@@ -135,7 +135,7 @@ fn indexed_table(
     alloc: Global,
     draft: &Draft,
     name: &PlacedName,
-) -> Result<usize, ReadError>
+) -> Result<TableNumber, ReadError>
     ensures takes { TakesSome (λ number. number) (spec.indexed_table (draft_view draft.now) name.now)
         r.old result r.new }
     ensures within { IfOk result (λ number. number < length (draft_view draft.now).tables) }

@@ -5,7 +5,7 @@ ghost use Rattle.std.specs.Str.{bytes_eq};
 ghost use Rattle.std.specs.String.{string_bytes};
 ghost use Rattle.sql_reader.specs.Reading.{Answers};
 ghost use Rattle.pub_reader.specs.Drafts.{with_name};
-ghost use Rattle.pub_reader.specs.Schemas.{fresh, known};
+ghost use Rattle.pub_reader.specs.Schemas.{fresh, known_position};
 
 use indexmap::IndexSet;
 use sql_reader::{ErrorKind, Limit, PlacedName, ReadError};
@@ -57,7 +57,7 @@ impl Names {
 
 /// The number that was found for a name, which must exist.
 pub fn known_number(name: &PlacedName, found: Option<usize>) -> Result<usize, ReadError>
-    ensures answer { Answers (λ n. n) (known name.now found) result }
+    ensures answer { Answers (λ n. n) (known_position name.now found) result }
     ensures found { IfOk result (λ n. found ≡ Some n) }
 {
     match found {

@@ -6,7 +6,7 @@ ghost use Rattle.sql_reader.specs.ParsingContracts.{Takes, TakesSome, to_read};
 ghost use Rattle.pub_reader.specs.ScriptCommands as spec;
 
 use crate::script_table::script_table;
-use filter_tree::Table;
+use filter_tree::{Table, TableNumber};
 use sql_reader::{Item, ReadError, Reader, read_values, same_word};
 use std::alloc::Global;
 use table_changes::Command;
@@ -83,7 +83,7 @@ fn one_table(
     r: &mut Reader<'_>,
     alloc: Global,
     tables: &[Table],
-    numbers: &mut Vec<usize>,
+    numbers: &mut Vec<TableNumber>,
 ) -> Result<(), ReadError>
     ensures { TakesSome (λ _. numbers.new.items) (spec.one_table tables.now numbers.old.items) r.old result r.new }
 {
@@ -94,7 +94,11 @@ fn one_table(
 
 /// Reads the names of tables, separated by commas, and returns their numbers.
 #[tactic(auto, using(crate::proofs::Rules::chaining), unfolding(crate::specs::ScriptCommands::table_list))]
-fn table_list(r: &mut Reader<'_>, alloc: Global, tables: &[Table]) -> Result<Vec<usize>, ReadError>
+fn table_list(
+    r: &mut Reader<'_>,
+    alloc: Global,
+    tables: &[Table],
+) -> Result<Vec<TableNumber>, ReadError>
     ensures { TakesSome (λ numbers. numbers.items) (spec.table_list tables.now) r.old result r.new }
 {
     let mut numbers = Vec::new(alloc);

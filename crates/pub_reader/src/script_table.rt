@@ -8,7 +8,7 @@ ghost use Rattle.pub_reader.specs.TableNames.{known_table as table_known};
 
 use crate::draft::PUBLIC;
 use crate::names::known_number;
-use filter_tree::Table;
+use filter_tree::{Table, TableNumber};
 use sql_reader::{ErrorKind, Item, PlacedName, ReadError, Reader, read_name};
 use std::alloc::Global;
 
@@ -41,7 +41,7 @@ fn schema_in_use(tables: &[Table], name: &PlacedName) -> Result<(), ReadError>
 }
 
 /// The number of the table with a schema and a name.
-fn find_table(tables: &[Table], schema: &str, name: &str) -> Option<usize>
+fn find_table(tables: &[Table], schema: &str, name: &str) -> Option<TableNumber>
     ensures { result ≡ table_found schema.now name.now tables.now }
 {
     tables.iter().position(|table| schema == table.schema.as_str() && name == table.name.as_str())
@@ -49,7 +49,7 @@ fn find_table(tables: &[Table], schema: &str, name: &str) -> Option<usize>
 
 /// The number of a table, which must exist.
 #[tactic(auto, unfolding(crate::specs::TableNames::known_table))]
-fn known_table(tables: &[Table], schema: &str, name: &PlacedName) -> Result<usize, ReadError>
+fn known_table(tables: &[Table], schema: &str, name: &PlacedName) -> Result<TableNumber, ReadError>
     ensures { Answers (λ n. n) (table_known tables.now schema.now name.now) result }
 {
     Ok(known_number(name, find_table(tables, schema, name.text.as_str()))?)
@@ -77,7 +77,7 @@ fn table_after_schema(
     alloc: Global,
     tables: &[Table],
     schema: &PlacedName,
-) -> Result<usize, ReadError>
+) -> Result<TableNumber, ReadError>
     ensures { TakesSome (λ number. number) (spec.table_after_schema tables.now schema.now) r.old result r.new }
 {
     let name = name_after_schema(r, alloc, tables, schema)?;
@@ -91,7 +91,7 @@ fn table_called(
     alloc: Global,
     tables: &[Table],
     name: &PlacedName,
-) -> Result<usize, ReadError>
+) -> Result<TableNumber, ReadError>
     ensures { Takes (λ number. number) (spec.table_called tables.now name.now) r.old result r.new }
 {
     r.look()?;
@@ -103,7 +103,11 @@ fn table_called(
 
 /// Reads the name of a table, and returns its number.
 #[tactic(auto, unfolding(crate::specs::ScriptTables::script_table))]
-pub fn script_table(r: &mut Reader<'_>, alloc: Global, tables: &[Table]) -> Result<usize, ReadError>
+pub fn script_table(
+    r: &mut Reader<'_>,
+    alloc: Global,
+    tables: &[Table],
+) -> Result<TableNumber, ReadError>
     ensures { TakesSome (λ number. number) (spec.script_table tables.now) r.old result r.new }
 {
     let name = read_name(r, alloc, "the name of a table")?;

@@ -7,6 +7,7 @@ ghost use Rattle.pub_reader.specs.Steps as spec;
 use crate::script_command::commands_or_none;
 use crate::step_word::StepWord;
 use filter_tree::Table;
+use pub_catalog::SubscriberNumber;
 use sql_reader::{Item, Keyword, ReadError, Reader};
 use std::alloc::Global;
 use table_changes::Command;
@@ -18,21 +19,41 @@ pub enum Step {
     /// A transaction of these commands is committed.
     Commit(Vec<Command>),
     /// The subscriber connects, and asks for the stream from its position on.
-    Open { subscriber: usize },
+    Open {
+        subscriber: SubscriberNumber,
+    },
     /// The publisher receives the next bytes from the subscriber, at most this number.
-    Hear { subscriber: usize, bytes: usize },
+    Hear {
+        subscriber: SubscriberNumber,
+        bytes: usize,
+    },
     /// The publisher takes the next commit and sends what the subscriber gets of it.
-    Take { subscriber: usize },
+    Take {
+        subscriber: SubscriberNumber,
+    },
     /// The publisher sends a keepalive, which may ask for a reply.
-    Keep { subscriber: usize, want: bool },
+    Keep {
+        subscriber: SubscriberNumber,
+        want: bool,
+    },
     /// The next bytes from the publisher, at most this number, arrive at the subscriber.
-    Deliver { subscriber: usize, bytes: usize },
+    Deliver {
+        subscriber: SubscriberNumber,
+        bytes: usize,
+    },
     /// The subscriber sends its position, and may ask for a reply.
-    Report { subscriber: usize, want: bool },
+    Report {
+        subscriber: SubscriberNumber,
+        want: bool,
+    },
     /// The connection is lost.
-    Lose { subscriber: usize },
+    Lose {
+        subscriber: SubscriberNumber,
+    },
     /// The subscriber gets all that was committed, and confirms it.
-    Pump { subscriber: usize },
+    Pump {
+        subscriber: SubscriberNumber,
+    },
     /// The state of the publisher and of each subscriber is shown.
     View,
 }
@@ -51,7 +72,7 @@ fn natural(r: &mut Reader<'_>, what: &'static str) -> Result<usize, ReadError>
     }
 }
 
-fn subscriber(r: &mut Reader<'_>) -> Result<usize, ReadError>
+fn subscriber(r: &mut Reader<'_>) -> Result<SubscriberNumber, ReadError>
     ensures { TakesSome (λ number. number) spec.natural r.old result r.new }
 {
     Ok(natural(r, "the number of a subscriber")?)

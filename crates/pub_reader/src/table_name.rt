@@ -6,7 +6,7 @@ ghost use Rattle.pub_reader.specs.TableNames as spec;
 ghost use Rattle.sql_reader.specs.ParsingContracts.{Takes, TakesSome, to_read, Reads};
 
 use crate::draft::{Draft, PUBLIC};
-use filter_tree::Text;
+use filter_tree::{TableNumber, Text};
 use sql_reader::{
     ErrorKind, Item, Keyword, Omitted, PlacedName, ReadError, Reader, read_name, unsupported_clause,
 };
@@ -42,7 +42,7 @@ fn table_in_schema(
     alloc: Global,
     draft: &Draft,
     schema: &PlacedName,
-) -> Result<usize, ReadError>
+) -> Result<TableNumber, ReadError>
     ensures takes { TakesSome (λ number. number) (spec.table_in_schema (draft_view draft.now) schema.now)
         r.old result r.new }
     ensures within { IfOk result (λ number. number < length (draft_view draft.now).tables) }
@@ -58,7 +58,7 @@ pub fn table_named(
     alloc: Global,
     draft: &Draft,
     name: &PlacedName,
-) -> Result<usize, ReadError>
+) -> Result<TableNumber, ReadError>
     ensures takes { Takes (λ number. number) (spec.table_named (draft_view draft.now) name.now) r.old result r.new }
     ensures within { IfOk result (λ number. number < length (draft_view draft.now).tables) }
 {
@@ -71,7 +71,11 @@ pub fn table_named(
 
 /// Reads the name of a table that was created before, and returns its number.
 #[tactic(auto, unfolding(crate::specs::TableNames::table_number))]
-pub fn table_number(r: &mut Reader<'_>, alloc: Global, draft: &Draft) -> Result<usize, ReadError>
+pub fn table_number(
+    r: &mut Reader<'_>,
+    alloc: Global,
+    draft: &Draft,
+) -> Result<TableNumber, ReadError>
     ensures takes { TakesSome (λ number. number) (spec.table_number (draft_view draft.now)) r.old result r.new }
     ensures within { IfOk result (λ number. number < length (draft_view draft.now).tables) }
 {

@@ -4,7 +4,7 @@ ghost use Rattle.std.specs.Prelude.{◌≡◌, ◌≢◌, IfOk, MatchBool};
 ghost use Rattle.replica_identity.specs.ChangeView.{part_view, change_view};
 
 use crate::shared_row::SharedRow;
-use filter_tree::same_row;
+use filter_tree::{TableNumber, same_row};
 use std::alloc::{AllocError, Global};
 
 /// What is recorded of an old row: nothing, the row with nulls outside the columns of the replica identity, or the
@@ -54,20 +54,20 @@ impl OldPart {
 #[derive(Debug, Drop, PartialEq, Eq)]
 pub enum Change {
     Insert {
-        table: usize,
+        table: TableNumber,
         new: SharedRow,
     },
     Update {
-        table: usize,
+        table: TableNumber,
         old: OldPart,
         new: SharedRow,
     },
     Delete {
-        table: usize,
+        table: TableNumber,
         old: OldPart,
     },
     Truncate {
-        tables: Vec<usize>,
+        tables: Vec<TableNumber>,
     },
 }
 

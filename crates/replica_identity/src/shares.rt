@@ -4,6 +4,8 @@ ghost use Rattle.std.specs.Prelude.{◌≡◌, true};
 ghost use Rattle.replica_identity.specs.Shares.{share_view, is_nothing};
 
 use crate::share::Share;
+use filter_tree::TableNumber;
+use pub_catalog::SubscriberNumber;
 
 /// What each subscriber gets of each table, both by their numbers from 0 in the catalog.
 #[derive(Debug, Drop)]
@@ -31,7 +33,7 @@ impl Plan {
     /// What a subscriber gets of a table, by their numbers from 0 in the catalog. It is nothing for tables and
     /// subscribers that the catalog does not have.
     #[tactic(auto, using(crate::proofs::PlanLemmas::past_the_plan))]
-    pub fn share(&self, subscriber: usize, table: usize) -> &Share
+    pub fn share(&self, subscriber: SubscriberNumber, table: TableNumber) -> &Share
         ensures { share_view result.now ≡ share_at (plan_view self.now) subscriber table }
     {
         match self.shares.get(subscriber) {

@@ -11,7 +11,8 @@ ghost use Rattle.replica_identity.specs.Transforms.{takes_any, out_for};
 use crate::change::{Change, OldPart};
 use crate::share::Share;
 use crate::shares::Plan;
-use filter_tree::Row;
+use filter_tree::{Row, TableNumber};
+use pub_catalog::SubscriberNumber;
 
 /// What a subscriber gets of a change, with the change's own rows and tables. The table is the change's. `Truncate` has
 /// all tables of the change, including those from which the subscriber gets nothing.
@@ -22,21 +23,21 @@ pub enum Out<'a> {
     Insert(&'a Row),
     Update(&'a OldPart, &'a Row),
     Delete(&'a OldPart),
-    Truncate(&'a [usize]),
+    Truncate(&'a [TableNumber]),
 }
 
 /// Whether a subscriber gets anything from a table, by their numbers from 0 in the catalog. It gets nothing for tables
 /// and subscribers that the catalog does not have.
 ///
 /// PostgreSQL 15, "Logical Replication", 31.2 Subscription.
-pub fn carries(plan: &Plan, subscriber: usize, table: usize) -> bool
+pub fn carries(plan: &Plan, subscriber: SubscriberNumber, table: TableNumber) -> bool
     ensures { result ≡ takes_any (plan_view plan.now) subscriber table }
 {
     !matches!(plan.share(subscriber, table), Share::Nothing)
 }
 
 /// Whether it gets anything from one of these tables.
-fn carries_any(plan: &Plan, subscriber: usize, tables: &[usize]) -> bool
+fn carries_any(plan: &Plan, subscriber: SubscriberNumber, tables: &[TableNumber]) -> bool
     ensures { result ≡ list_any (takes_any (plan_view plan.now) subscriber) tables.now }
 {
     for table in tables {
@@ -65,7 +66,11 @@ fn asked<'a>(old: &'a OldPart, new: &'a Row) -> &'a Row
 /// from one of the tables. Nothing is copied.
 ///
 /// PostgreSQL 15, "Logical Replication", 31.3.1 Row Filter Rules and 31.3.3 UPDATE Transformations.
-pub fn transform<'a>(plan: &Plan, subscriber: usize, change: &'a Change) -> Option<Out<'a>>
+pub fn transform<'a>(
+    plan: &Plan,
+    subscriber: SubscriberNumber,
+    change: &'a Change,
+) -> Option<Out<'a>>
     ensures { option_map out_view result ≡ out_for (plan_view plan.now) subscriber (change_view change.now) }
 {
     match change {

@@ -6,10 +6,11 @@ ghost use Rattle.row_owners.specs.Owners.{AreOwners, IsSpared, concerns, owned};
 ghost use Rattle.table_changes.specs.Records.{ChangeOf};
 
 use crate::owner_set::OwnerSet;
+use pub_catalog::SubscriberNumber;
 
 /// The first place, from `from` on, of a change that may be for the subscriber: one whose set has the subscriber, or
 /// that has no set. Those before it are for others.
-pub fn next_of(sets: &[OwnerSet], from: usize, subscriber: usize) -> usize
+pub fn next_of(sets: &[OwnerSet], from: usize, subscriber: SubscriberNumber) -> usize
     ensures onward { from ≤ result }
     ensures spared { (place : ℕ) → from ≤ place → place < result → IsSpared sets.now subscriber place }
     ensures own { subscriber < 32 → IfSome (slice_get sets.now result) (λ set. IsTrue (owned set subscriber)) }
@@ -26,7 +27,7 @@ pub fn next_of(sets: &[OwnerSet], from: usize, subscriber: usize) -> usize
 
 /// How many of so many changes may be for the subscriber: those whose set has the subscriber, and those that have no
 /// set.
-pub fn count_of(sets: &[OwnerSet], changes: usize, subscriber: usize) -> usize
+pub fn count_of(sets: &[OwnerSet], changes: usize, subscriber: SubscriberNumber) -> usize
     ensures exact { subscriber < 32 → result
         ≡ count_by (λ set. owned set subscriber) sets.now + (changes - length sets.now) }
     ensures none { result ≡ 0 → (plan : PlanOf) (all : List ChangeOf) → length all ≤ changes

@@ -1,5 +1,7 @@
 //! Sets of subscribers.
 
+use pub_catalog::SubscriberNumber;
+
 /// A set of subscribers, by their numbers from 0 to 31.
 #[derive(Clone, Copy, Debug)]
 pub struct OwnerSet {
@@ -20,7 +22,7 @@ impl OwnerSet {
 
     /// Puts the subscriber into the set if `is_there`.
     #[tactic(auto, using(crate::proofs::BitLemmas::put_owned, crate::proofs::BitLemmas::kept_owned))]
-    pub fn put(&mut self, subscriber: usize, is_there: bool)
+    pub fn put(&mut self, subscriber: SubscriberNumber, is_there: bool)
         requires { subscriber < 32 }
         ensures { OwnedWhere self.new (λ other. owned self.old other || ((other == subscriber) && is_there)) }
     {
@@ -39,7 +41,7 @@ impl OwnerSet {
 
     /// Whether the set has the subscriber.
     #[tactic(auto, using(crate::proofs::BitLemmas::bit_tested))]
-    pub fn has(self, subscriber: usize) -> bool
+    pub fn has(self, subscriber: SubscriberNumber) -> bool
         requires { subscriber < 32 }
         ensures { result ≡ owned self subscriber }
     {

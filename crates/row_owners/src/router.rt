@@ -11,7 +11,7 @@ ghost use Rattle.shard_checker.specs.CheckedView.{checked_view};
 
 use crate::owner_set::OwnerSet;
 use crate::table_router::{TableRouter, takers};
-use filter_tree::Row;
+use filter_tree::{Row, TableNumber};
 use replica_identity::{Change, OldPart, Plan, carries};
 use shard_checker::Checked;
 use std::alloc::{AllocError, Global};
@@ -26,7 +26,7 @@ pub struct Router {
 }
 
 /// The subscribers that get anything from the table.
-fn carriers(plan: &Plan, table: usize) -> OwnerSet
+fn carriers(plan: &Plan, table: TableNumber) -> OwnerSet
     ensures { OwnedWhere result (λ subscriber. takes_any (plan_view plan.now) subscriber table) }
 {
     let mut set = OwnerSet::none();
@@ -37,7 +37,7 @@ fn carriers(plan: &Plan, table: usize) -> OwnerSet
 }
 
 /// The subscribers that get anything from one of these tables.
-fn carriers_of(plan: &Plan, tables: &[usize]) -> OwnerSet
+fn carriers_of(plan: &Plan, tables: &[TableNumber]) -> OwnerSet
     ensures { OwnedWhere result (λ subscriber. list_any (takes_any (plan_view plan.now) subscriber) tables.now) }
 {
     let mut set = OwnerSet::none();
@@ -63,7 +63,7 @@ impl Router {
     }
 
     /// The subscribers that get the row of the table. It allocates no memory.
-    fn row_owners(&mut self, plan: &Plan, table: usize, row: &Row) -> OwnerSet
+    fn row_owners(&mut self, plan: &Plan, table: TableNumber, row: &Row) -> OwnerSet
         requires { spec.IsRouterOf (plan_view plan.now) self.old }
         ensures router { spec.IsRouterOf (plan_view plan.now) self.new }
         ensures owners { spec.OwnsRow (plan_view plan.now) table row.now result }
@@ -75,7 +75,7 @@ impl Router {
     }
 
     /// The subscribers that get the recorded part; none if nothing is recorded.
-    fn part_owners(&mut self, plan: &Plan, table: usize, part: &OldPart) -> OwnerSet
+    fn part_owners(&mut self, plan: &Plan, table: TableNumber, part: &OldPart) -> OwnerSet
         requires { spec.IsRouterOf (plan_view plan.now) self.old }
         ensures router { spec.IsRouterOf (plan_view plan.now) self.new }
         ensures owners { OwnedWhere result (spec.takes_part (plan_view plan.now) table (part_view part.now)) }

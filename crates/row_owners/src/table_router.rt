@@ -11,7 +11,8 @@ ghost use Rattle.shard_checker.specs.CheckedView.{checked_view};
 
 use crate::owner_set::OwnerSet;
 use filter_memo::{Atoms, Said};
-use filter_tree::{Filter, Row, Tri};
+use filter_tree::{Filter, Row, TableNumber, Tri};
+use pub_catalog::SubscriberNumber;
 use replica_identity::{Plan, Share};
 use shard_checker::Checked;
 use std::alloc::{AllocError, Global};
@@ -82,7 +83,7 @@ fn filter_in(share: &Share) -> Option<&Filter>
 fn filters_of(
     alloc: Global,
     checked: &Checked,
-    table: usize,
+    table: TableNumber,
 ) -> Result<Vec<Option<&Filter>>, AllocError>
     ensures { IfOk result (λ filters.
         filters_view filters.items ≡ spec.filters_of (checked_view checked.now).plan table) }
@@ -97,7 +98,7 @@ fn filters_of(
 }
 
 /// The subscribers that get the row. Each filter is evaluated.
-pub(crate) fn takers(plan: &Plan, table: usize, row: &Row) -> OwnerSet
+pub(crate) fn takers(plan: &Plan, table: TableNumber, row: &Row) -> OwnerSet
     ensures { spec.OwnsRow (plan_view plan.now) table row.now result }
 {
     let mut set = OwnerSet::none();
@@ -114,7 +115,13 @@ fn is_true(tri: Tri) -> bool
 }
 
 /// Whether the share of this subscriber has the row, whose atoms have these values.
-fn takes_by(atoms: &Atoms, said: Said, subscriber: usize, share: &Share, row: &Row) -> bool
+fn takes_by(
+    atoms: &Atoms,
+    said: Said,
+    subscriber: SubscriberNumber,
+    share: &Share,
+    row: &Row,
+) -> bool
     ensures { (filters : List (Option Expr)) → IsAtomsOf filters atoms.now → Locates atoms.now row.now said
         → ((filter : Expr) → share_view share.now ≡ Where filter → slice_get filters subscriber ≡ Some (Some filter))
         → result ≡ takes (share_view share.now) row.now }
@@ -129,7 +136,7 @@ fn takes_by(atoms: &Atoms, said: Said, subscriber: usize, share: &Share, row: &R
 }
 
 /// The subscribers that get the row, whose atoms have these values.
-fn takers_by(atoms: &Atoms, said: Said, plan: &Plan, table: usize, row: &Row) -> OwnerSet
+fn takers_by(atoms: &Atoms, said: Said, plan: &Plan, table: TableNumber, row: &Row) -> OwnerSet
     requires atoms { IsAtomsOf (spec.filters_of (plan_view plan.now) table) atoms.now }
     requires located { Locates atoms.now row.now said }
     ensures { spec.OwnsRow (plan_view plan.now) table row.now result }
@@ -147,7 +154,7 @@ impl TableRouter {
     pub(crate) fn new(
         alloc: Global,
         checked: &Checked,
-        table: usize,
+        table: TableNumber,
     ) -> Result<TableRouter, AllocError>
         ensures { IfOk result (spec.RoutesTable (checked_view checked.now).plan table) }
     {
@@ -161,7 +168,7 @@ impl TableRouter {
     }
 
     /// The subscribers that get the row of the table. It allocates no memory.
-    pub(crate) fn owners(&mut self, plan: &Plan, table: usize, row: &Row) -> OwnerSet
+    pub(crate) fn owners(&mut self, plan: &Plan, table: TableNumber, row: &Row) -> OwnerSet
         requires { spec.RoutesTable (plan_view plan.now) table self.old }
         ensures router { spec.RoutesTable (plan_view plan.now) table self.new }
         ensures owners { spec.OwnsRow (plan_view plan.now) table row.now result }

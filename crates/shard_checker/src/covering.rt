@@ -9,12 +9,12 @@ ghost use Rattle.shard_checker.specs.Checks.{Checks, Finds};
 
 use crate::error::CheckError;
 use crate::publishing::is_taken;
-use filter_tree::{Filter, Table, columns_of};
+use filter_tree::{Filter, Table, TableNumber, columns_of};
 use pub_catalog::{Entry, Publication, Subscription};
 use replica_identity::{covered, tells_rows_apart};
 use std::alloc::Global;
 
-fn check_identity(number: usize, table: &Table) -> Result<(), CheckError>
+fn check_identity(number: TableNumber, table: &Table) -> Result<(), CheckError>
     ensures exact { Finds (spec.table_refusal number table.now) result }
     ensures told { IfErr result (λ error. error ≢ CheckError.OutOfMemory) }
 {
@@ -39,7 +39,7 @@ pub fn check_identities(tables: &[Table]) -> Result<(), CheckError>
 /// Checks that the replica identity of the table, which has this number, has the columns.
 fn check_columns(
     publication: usize,
-    number: usize,
+    number: TableNumber,
     table: &Table,
     columns: &[usize],
 ) -> Result<(), CheckError>
@@ -60,7 +60,7 @@ fn check_columns(
 fn check_filter(
     alloc: Global,
     publication: usize,
-    number: usize,
+    number: TableNumber,
     table: &Table,
     filter: &Filter,
 ) -> Result<(), CheckError>
@@ -74,7 +74,7 @@ fn check_filter(
 fn check_carried(
     alloc: Global,
     publication: usize,
-    number: usize,
+    number: TableNumber,
     table: Option<&Table>,
     filter: Option<&Filter>,
 ) -> Result<(), CheckError>

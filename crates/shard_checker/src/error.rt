@@ -1,5 +1,7 @@
 //! Why a sharding is refused.
 
+use filter_tree::TableNumber;
+use pub_catalog::SubscriberNumber;
 use std::alloc::AllocError;
 use thiserror::Error;
 
@@ -33,14 +35,14 @@ pub enum CheckError {
     /// not have or that has a column which may be null. No catalog that `read_catalog` returns has such an index.
     #[error("the replica identity of table {table} does not identify its rows")]
     NoIdentity {
-        table: usize,
+        table: TableNumber,
     },
     /// A subscription names the publication, whose filter for the table names a column of it that is outside the
     /// replica identity.
     #[error("a filter of publication {publication} names column {column} of table {table}, which is not in the replica identity")]
     NotCovered {
         publication: usize,
-        table: usize,
+        table: TableNumber,
         column: usize,
     },
     /// There are fewer or more certificates than tables.
@@ -49,33 +51,33 @@ pub enum CheckError {
     /// The node names an atom, a term or a subscriber that does not exist.
     #[error("node {node} of the certificate of table {table} has a number that is out of range")]
     BadIndex {
-        table: usize,
+        table: TableNumber,
         node: usize,
     },
     /// The node says that the term has no value, but it may have one.
     #[error("at node {node} of the certificate of table {table} the term may have a value")]
     NotEmpty {
-        table: usize,
+        table: TableNumber,
         node: usize,
     },
     /// The node says that the atom is never null, but it may be.
     #[error("at node {node} of the certificate of table {table} the atom may be null")]
     MayBeNull {
-        table: usize,
+        table: TableNumber,
         node: usize,
     },
     /// The subscriber that the node names might not take the rows.
     #[error("at node {node} of the certificate of table {table} the subscriber might not take the row")]
     NotOwner {
-        table: usize,
+        table: TableNumber,
         node: usize,
     },
     /// Another subscriber might take the rows of the one that the node names.
     #[error("at node {node} of the certificate of table {table} subscriber {subscriber} might take the row too")]
     SecondOwner {
-        table: usize,
+        table: TableNumber,
         node: usize,
-        subscriber: usize,
+        subscriber: SubscriberNumber,
     },
     #[error("out of memory")]
     OutOfMemory,

@@ -21,7 +21,7 @@ use crate::numbering::{numbered_atoms, numbered_terms};
 use crate::source::Source;
 use crate::subject::Subject;
 use crate::walk::{begin, check_waiting};
-use filter_tree::Table;
+use filter_tree::{Table, TableNumber};
 use replica_identity::Share;
 use split_cert::Cert;
 use std::alloc::{Allocator, Global};
@@ -45,7 +45,7 @@ fn check_subject<'a, A: Allocator, C: Source>(
 /// Checks the certificate of the table of this number.
 pub fn check_table<A: Allocator, C: Source>(
     alloc: Global,
-    number: usize,
+    number: TableNumber,
     table: &Table,
     shares: &[&Share<A>],
     cert: &C,

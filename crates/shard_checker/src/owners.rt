@@ -7,6 +7,7 @@ ghost use Rattle.shard_checker.specs.Steps.{mask_in, second_among};
 
 use crate::leaf_masks::{LeafMasks, mask_at_leaf};
 use filter_tree::Mask;
+use pub_catalog::SubscriberNumber;
 
 /// Whether the set has only true.
 pub fn is_surely_true(mask: Mask) -> bool
@@ -15,7 +16,7 @@ pub fn is_surely_true(mask: Mask) -> bool
     mask.truth && !mask.falsity && !mask.null
 }
 
-fn is_second(owner: usize, number: usize, mask: Mask) -> bool
+fn is_second(owner: SubscriberNumber, number: SubscriberNumber, mask: Mask) -> bool
     ensures { result ≡ (not (number == owner) && mask.truth) }
 {
     number != owner && mask.truth
@@ -24,11 +25,11 @@ fn is_second(owner: usize, number: usize, mask: Mask) -> bool
 /// The least number of a share, other than the owner's, that may take a row at a leaf: the share's filter may be true.
 /// The roots give the number of the filter's step.
 pub fn second_owner(
-    owner: usize,
+    owner: SubscriberNumber,
     roots: &[usize],
     masks: &[LeafMasks],
     leaf: usize,
-) -> Option<usize>
+) -> Option<SubscriberNumber>
     requires { leaf < 64 }
     ensures { result ≡ second_among owner 0 (map (mask_in (all_at leaf masks.now)) roots.now) }
 {

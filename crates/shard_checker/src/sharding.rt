@@ -23,7 +23,7 @@ use crate::error::CheckError;
 use crate::one_table::check_table;
 use crate::publishing::check_publishing;
 use crate::source::Source;
-use filter_tree::Table;
+use filter_tree::{Table, TableNumber};
 use pub_catalog::{Catalog, Subscription};
 use replica_identity::{Plan, Share};
 use split_cert::Cert;
@@ -34,7 +34,7 @@ use std::alloc::{AllocError, Allocator, Global};
 pub fn shares_in<'a>(
     alloc: Global,
     plan: &'a Plan,
-    table: usize,
+    table: TableNumber,
     subscriptions: &[Subscription],
 ) -> Result<Vec<&'a Share>, AllocError>
     ensures { IfOk result (λ shares.
@@ -52,7 +52,7 @@ fn check_certificate<C: Source>(
     alloc: Global,
     plan: &Plan,
     subscriptions: &[Subscription],
-    number: usize,
+    number: TableNumber,
     table: &Table,
     cert: &C,
 ) -> Result<(), CheckError>

@@ -6,7 +6,7 @@ ghost use Rattle.filter_tree.specs.Shape.{atom_view, atoms_view};
 
 use crate::candidate_sets::CandidateSets;
 use crate::formulas::Formulas;
-use filter_tree::{Atom, Column, Term};
+use filter_tree::{Atom, Column, TableNumber, Term};
 use replica_identity::Share;
 use std::alloc::Allocator;
 
@@ -14,7 +14,7 @@ use std::alloc::Allocator;
 /// name by their numbers.
 #[derive(Drop)]
 pub struct Subject<'a, A: Allocator> {
-    pub table: usize,
+    pub table: TableNumber,
     pub columns: &'a [Column],
     pub shares: &'a [&'a Share<A>],
     pub atoms: &'a [&'a Atom<A>],

@@ -1,12 +1,12 @@
 //! The answers to events.
 
-use tables_log::CommitError;
+use tables_log::{CommitError, CommitNumber};
 
 /// The answer to an event, or to a pump.
 #[derive(Clone, Copy, Debug, PartialEq, Eq)]
 pub enum Answer {
     /// The commit has this number, from 1.
-    Committed(u32),
+    Committed(CommitNumber),
     /// The commit is refused, and nothing changes.
     Refused(CommitError),
     /// There is no subscriber of this number, and nothing changes.
@@ -24,9 +24,9 @@ pub enum Answer {
     /// The publisher has no further commit to take, and nothing changes.
     Idle,
     /// The commit of this number has no change for the subscriber.
-    Skipped(u32),
+    Skipped(CommitNumber),
     /// The messages that report the commit of this number to the subscriber wait to be delivered.
-    Sent(u32),
+    Sent(CommitNumber),
     /// A keepalive waits to be delivered.
     Kept,
     /// This number of bytes was delivered to the subscriber.

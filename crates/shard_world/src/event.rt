@@ -1,5 +1,6 @@
 //! What happens in a world.
 
+use pub_catalog::SubscriberNumber;
 use table_changes::Command;
 
 /// What happens on the connection of a subscriber.
@@ -27,7 +28,13 @@ pub enum PeerEvent {
 #[derive(Debug, Drop, PartialEq, Eq)]
 pub enum Event {
     /// These commands are committed as one transaction at this time, in microseconds since 2000-01-01.
-    Commit { commands: Vec<Command>, time: u64 },
+    Commit {
+        commands: Vec<Command>,
+        time: u64,
+    },
     /// Something happens on the connection of the subscriber with this number, from 0, which need not exist.
-    On { subscriber: usize, event: PeerEvent },
+    On {
+        subscriber: SubscriberNumber,
+        event: PeerEvent,
+    },
 }

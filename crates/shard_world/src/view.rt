@@ -6,6 +6,7 @@ ghost use Rattle.shard_world.specs.ViewContents.{AllAt, AreSeen, FoundBy, FoundI
 use crate::peer::Peer;
 use filter_tree::Row;
 use pgoutput_msgs::oid_of;
+use pub_catalog::SubscriberNumber;
 use std::alloc::{AllocError, Global};
 use tables_log::{Book, Lsn};
 use test_subscriber::Subscriber;
@@ -64,7 +65,7 @@ fn rows_of_copies(
 fn seen_of(
     alloc: Global,
     book: &Book,
-    number: usize,
+    number: SubscriberNumber,
     subscriber: &Subscriber,
     tables: usize,
 ) -> Result<SubscriberView, AllocError>

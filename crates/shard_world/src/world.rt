@@ -10,6 +10,7 @@ use crate::event::{Event, PeerEvent};
 use crate::opening::first_peers;
 use crate::peer::Peer;
 use crate::view::{View, seen};
+use pub_catalog::SubscriberNumber;
 use shard_checker::Checked;
 use std::alloc::{AllocError, Global};
 use std::sync::Arc;
@@ -90,7 +91,7 @@ impl World {
 
     /// Something happens on the connection of a subscriber.
     #[tactic(auto, using(crate::proofs::WorldMoves::moves_one, crate::proofs::WorldMoves::none_there))]
-    fn on(&mut self, now: u64, subscriber: usize, event: PeerEvent) -> Answer
+    fn on(&mut self, now: u64, subscriber: SubscriberNumber, event: PeerEvent) -> Answer
         ensures steps { StepsFromEach self.old self.new now (w.On subscriber event) result }
         ensures counted { HasSmallCount result }
     {
@@ -125,7 +126,12 @@ impl World {
     }
 
     /// An event of a pump happens; an answer after which there is no connection ends the pump.
-    fn go_on(&mut self, now: u64, subscriber: usize, event: PeerEvent) -> Result<Answer, Answer>
+    fn go_on(
+        &mut self,
+        now: u64,
+        subscriber: SubscriberNumber,
+        event: PeerEvent,
+    ) -> Result<Answer, Answer>
         ensures ok { IfOk result (StepsFromEach self.old self.new now (w.On subscriber event)) }
         ensures err { IfErr result (StepsFromEach self.old self.new now (w.On subscriber event)) }
         ensures goes { IfOk result KeepsConnection }
@@ -144,7 +150,7 @@ impl World {
     fn go_through(
         &mut self,
         now: u64,
-        subscriber: usize,
+        subscriber: SubscriberNumber,
         events: &[PeerEvent],
     ) -> Result<(), Answer>
         ensures { WalksThrough self.old self.new now subscriber events.now result }
@@ -159,7 +165,7 @@ impl World {
 
     /// Each remaining commit is taken.
     #[tactic(auto, using(crate::proofs::Rules::taking_all))]
-    fn take_all(&mut self, now: u64, subscriber: usize) -> Result<(), Answer>
+    fn take_all(&mut self, now: u64, subscriber: SubscriberNumber) -> Result<(), Answer>
         ensures { TakesThrough self.old self.new now subscriber result }
     {
         for _ in 0..=self.book.log_len() {
@@ -174,7 +180,7 @@ impl World {
 
     /// The events of a pump, up to one that ends it early.
     #[tactic(auto, using(crate::proofs::PumpLemmas::pump_ends_hearing, crate::proofs::PumpLemmas::pump_ends_taking))]
-    fn pump_through(&mut self, now: u64, subscriber: usize) -> Result<(), Answer>
+    fn pump_through(&mut self, now: u64, subscriber: SubscriberNumber) -> Result<(), Answer>
         ensures { PumpsThrough self.old self.new now subscriber result }
     {
         if let Err(answer) = self.go_through(now, subscriber, &[HEAR_ALL]) {
@@ -188,7 +194,7 @@ impl World {
 
     /// The position of a subscriber.
     #[tactic(auto, using(crate::proofs::ViewLemmas::position_shown, crate::proofs::ViewLemmas::nobody_shown))]
-    fn position(&self, subscriber: usize) -> u64
+    fn position(&self, subscriber: SubscriberNumber) -> u64
         ensures { IsPosition self.now subscriber result }
     {
         match self.peers.get(subscriber) {
@@ -201,7 +207,7 @@ impl World {
     /// remaining commit is taken, a keepalive is sent, all is delivered, and the subscriber reports its position, which
     /// is heard. Returns `At` with 64 times the log's length plus 64. Out of memory ends the pump and loses the
     /// connection. Without a connection, or without the subscriber, nothing happens.
-    pub fn pump(&mut self, now: u64, subscriber: usize) -> Answer
+    pub fn pump(&mut self, now: u64, subscriber: SubscriberNumber) -> Answer
         ensures { PumpsFromEach self.old self.new now subscriber result }
     {
         match self.pump_through(now, subscriber) {

@@ -26,6 +26,7 @@ pub use error::{CommandFault, CommitError, StartError, StatusAhead};
 pub use laws::{
     books_go_to_other_threads, books_stand_for_transactions, listed_rows_are_the_table,
 };
-pub use lsn::{Lsn, xid_of_commit};
+pub use lsn::{CommitNumber, Lsn, xid_of_commit};
 pub use routed::Routed;
+pub use slots::SlotNumber;
 pub use staged::Staged;

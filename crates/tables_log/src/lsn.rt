@@ -5,6 +5,9 @@ ghost use Rattle.tables_log.specs.Lsn.{commits_before, end_lsn_of, lsn_of, xid_o
 
 use std::marker::Model;
 
+/// The number of a commit in the log, from 1; 0 is before the first one.
+pub type CommitNumber = u32;
+
 /// A position in the log, in bytes: a log sequence number. Each commit takes 64 bytes, and the first one begins at 64.
 /// Contracts see the number.
 ///
@@ -33,14 +36,14 @@ impl Lsn {
     }
 
     /// Where the commit of this number begins.
-    pub fn of_commit(number: u32) -> Lsn
+    pub fn of_commit(number: CommitNumber) -> Lsn
         ensures { result ≡ lsn_of number }
     {
         Lsn::new(64 * u64::from(number))
     }
 
     /// Where the commit of this number ends; of 0, where the log begins.
-    pub fn end_of_commit(number: u32) -> Lsn
+    pub fn end_of_commit(number: CommitNumber) -> Lsn
         ensures { result ≡ end_lsn_of number }
     {
         Lsn::new(64 * u64::from(number) + 64)
@@ -65,7 +68,7 @@ impl Lsn {
 /// The transaction number of the commit of this number: 3 for the first one, since PostgreSQL reserves 0 to 2.
 ///
 /// PostgreSQL 15, 55.9. Logical Replication Message Formats (Begin).
-pub fn xid_of_commit(number: u32) -> u32
+pub fn xid_of_commit(number: CommitNumber) -> u32
     requires { number + 2 < 2 ^ 32 }
     ensures { result ≡ xid_of number }
 {

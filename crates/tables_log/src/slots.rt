@@ -4,6 +4,10 @@ ghost use Rattle.std.specs.Prelude.{◌≡◌, ◌≤◌, max, length, IfOk, IfE
 ghost use Rattle.tables_log.specs.Slots.{confirmed_at, start_fault, started, released, confirmed_up_to};
 
 use crate::error::StartError;
+use pub_catalog::SubscriberNumber;
+
+/// The number of a slot, which is that of its subscription.
+pub type SlotNumber = SubscriberNumber;
 
 /// A replication slot: the position up to which its subscriber has confirmed the log, and whether a stream uses it.
 ///

@@ -9,7 +9,7 @@ use senders::{Publisher, Publishing};
 use std::sync::Wait;
 use std::thread;
 use std::time::{Clock, Duration};
-use tables_log::Book;
+use tables_log::{Book, SlotNumber};
 
 /// How many milliseconds a tick has. After each, keepalives may be due.
 const TICK: u64 = 100;
@@ -22,7 +22,7 @@ const TICKS: u64 = 1_000 / TICK;
 struct Reminding;
 
 /// Requests a keepalive for the client of a slot, unless its stream has ended.
-fn remind(connections: &mut [ConnectionState], slot: usize)
+fn remind(connections: &mut [ConnectionState], slot: SlotNumber)
     ensures { (most : ℕ) → AreSentUpTo most connections.old → AreSentUpTo most connections.new }
 {
     let Some(connection) = connections.get(slot).copied() else {

@@ -9,7 +9,7 @@ use senders::{Publisher, Publishing};
 use std::sync::Wait;
 use std::thread;
 use std::time::{Clock, Duration};
-use tables_log::{Book, Lsn};
+use tables_log::{Book, Lsn, SlotNumber};
 
 /// How many milliseconds the program waits before each look at whether all is confirmed.
 const LOOK: u64 = 50;
@@ -23,7 +23,7 @@ struct Asking;
 
 /// Whether the client of a slot is connected, was sent something since its stream started, and has not confirmed the
 /// whole log. If so, requests a keepalive for it.
-fn ask(connections: &mut [ConnectionState], slot: usize, confirmed: u64, end: u64) -> bool
+fn ask(connections: &mut [ConnectionState], slot: SlotNumber, confirmed: u64, end: u64) -> bool
     ensures { (most : ℕ) → AreSentUpTo most connections.old → AreSentUpTo most connections.new }
 {
     let Some(connection) = connections.get(slot).copied() else {

@@ -18,7 +18,7 @@ use publisher_desk::{ConnectionState, SlotTask};
 use senders::{Publisher, Publishing, Seat};
 use std::alloc::{AllocError, Global};
 use std::sync::Wait;
-use tables_log::{Book, StartError};
+use tables_log::{Book, SlotNumber, StartError};
 
 /// The progress of a subscriber: the position up to which it has confirmed the log, that up to which it was sent the
 /// log since its stream last started, and whether it is connected.
@@ -46,7 +46,7 @@ struct Viewing {
 }
 
 /// Whether a stream has the slot. To find out, one is started; if none had it, the slot is released again.
-fn is_taken(book: &mut Book, slot: usize) -> bool
+fn is_taken(book: &mut Book, slot: SlotNumber) -> bool
     ensures { ChangesSlots book.old book.new (book_slots book.new) }
 {
     match book.start(slot, 0) {
@@ -59,7 +59,7 @@ fn is_taken(book: &mut Book, slot: usize) -> bool
 }
 
 /// The position up to which the client of a slot was sent the log; 0 if there is no such slot.
-fn sent_to(connections: &[ConnectionState], slot: usize) -> u64 {
+fn sent_to(connections: &[ConnectionState], slot: SlotNumber) -> u64 {
     match connections.get(slot) {
         Some(connection) => connection.sent,
         None => 0,

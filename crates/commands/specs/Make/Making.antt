@@ -77,35 +77,36 @@ line_for catalog number TooLarge = codes "too large" ++ spaced (plain_table cata
 
 module _ (catalog : CatalogOf Expr) where
   -- a line for each of the first `n` tables, and whether each of the lines is a certificate
-  pub data AreLines : ℕ → Bool → List (List ℕ) → Type 0 where
-    NoTable : AreLines 0 true []
-    OneMore : (number : ℕ) (all : Bool) (lines : List (List ℕ)) (finding : Finding) → AreLines number all lines
+  pub data AreTableLines : ℕ → Bool → List (List ℕ) → Type 0 where
+    NoTable : AreTableLines 0 true []
+    OneMore : (number : ℕ) (all : Bool) (lines : List (List ℕ)) (finding : Finding) → AreTableLines number all lines
         → IsTrueOf catalog number finding
-        → AreLines (number + 1) (all && is_certificate finding) (lines ++ line_for catalog number finding ∷ [])
+        → AreTableLines (number + 1) (all && is_certificate finding) (lines ++ line_for catalog number finding ∷ [])
 
 abbrev pub status_for : Bool → Status
 status_for all = if all then Done else Refused
 
 -- the lines are those of the first tables of the catalog, which determine the status, and this many tables are left
-pub record AreFirstLines (catalog : CatalogOf Expr) (left : ℕ) (lines : List (List ℕ)) (status : Status) : Type 0 where
+pub record AreFirstTableLines (catalog : CatalogOf Expr) (left : ℕ) (lines : List (List ℕ)) (status : Status) :
+    Type 0 where
   pub number : ℕ
   pub all : Bool
   pub split : length catalog.tables ≡ number + left
-  pub are : AreLines catalog number all lines
+  pub are : AreTableLines catalog number all lines
   pub goes_by : status ≡ status_for all
 
 -- some table is left
-pub record AreSomeLines (catalog : CatalogOf Expr) (lines : List (List ℕ)) : Type 0 where
+pub record AreSomeTableLines (catalog : CatalogOf Expr) (lines : List (List ℕ)) : Type 0 where
   pub later : ℕ
   pub status : Status
-  pub first : AreFirstLines catalog (later + 1) lines status
+  pub first : AreFirstTableLines catalog (later + 1) lines status
 
 -- the whole input is a catalog, and the lines are those of its first tables
 pub record IsMaking (input : List ℕ) (left : ℕ) (lines : List (List ℕ)) (status : Status) : Type 0 where
   pub catalog : CatalogOf Expr
   pub whole : cut_of input ≡ None
   pub reads : catalog_by as_filter input ≡ Ok catalog
-  pub tables : AreFirstLines catalog left lines status
+  pub tables : AreFirstTableLines catalog left lines status
 
 -- some table is left
 pub record IsBegunMaking (input : List ℕ) (lines : List (List ℕ)) : Type 0 where
@@ -150,4 +151,4 @@ pub record StopsTable (catalog : CatalogOf Expr) (number : ℕ) (old new : Optio
 
 -- a line for each table is written, as far as memory and the writer go
 abbrev pub WritesTables : CatalogOf Expr → Option (List ℕ) → Option (List ℕ) → Result Status Failure → Type 0
-WritesTables catalog old new result = Writes (AreFirstLines catalog 0) (AreSomeLines catalog) old new result
+WritesTables catalog old new result = Writes (AreFirstTableLines catalog 0) (AreSomeTableLines catalog) old new result

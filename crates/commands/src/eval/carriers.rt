@@ -5,7 +5,7 @@ ghost use Rattle.std.specs.List.{cons_option, list_any};
 ghost use Rattle.std.specs.Option.{option_copied, option_map};
 ghost use Rattle.commands.specs.Eval.Carriers as spec;
 
-use filter_tree::Filter;
+use filter_tree::{Filter, TableNumber};
 use pub_catalog::{Entry, Publication};
 use std::alloc::{AllocError, Global};
 
@@ -17,7 +17,7 @@ pub struct Carrier<'a> {
 }
 
 /// Whether some entry for a table has no filter.
-fn carries_all(entries: &[Entry], table: usize) -> bool
+fn carries_all(entries: &[Entry], table: TableNumber) -> bool
     ensures { result ≡ list_any (spec.is_whole table) entries.now }
 {
     entries
@@ -25,14 +25,14 @@ fn carries_all(entries: &[Entry], table: usize) -> bool
         .any(|entry| entry.table == table && entry.filter.is_none())
 }
 
-fn entry_for(entries: &[Entry], table: usize) -> Option<&Entry>
+fn entry_for(entries: &[Entry], table: TableNumber) -> Option<&Entry>
     ensures { option_copied result ≡ find (spec.is_entry_for table) entries.now }
 {
     entries.iter().find(|entry| entry.table == table)
 }
 
 /// What a publication carries of a table; `None` if it does not carry it.
-fn carrier_in(publication: &Publication, table: usize) -> Option<Carrier<'_>>
+fn carrier_in(publication: &Publication, table: TableNumber) -> Option<Carrier<'_>>
     ensures { option_map spec.carrier_view result ≡ spec.carried_by table publication.now }
 {
     let name = publication.name.as_str();
@@ -55,7 +55,7 @@ fn carrier_in(publication: &Publication, table: usize) -> Option<Carrier<'_>>
 fn add_carrier<'a>(
     carriers: &mut Vec<Carrier<'a>>,
     publication: &'a Publication,
-    table: usize,
+    table: TableNumber,
 ) -> Result<(), AllocError>
     ensures { OnOk result (map spec.carrier_view carriers.new.items ≡ map spec.carrier_view carriers.old.items ++
         cons_option (spec.carried_by table publication.now) []) }
@@ -73,7 +73,7 @@ fn add_carrier<'a>(
 pub fn carriers_of(
     alloc: Global,
     publications: &[Publication],
-    table: usize,
+    table: TableNumber,
 ) -> Result<Vec<Carrier<'_>>, AllocError>
     ensures { IfOk result (λ carriers. map spec.carrier_view carriers.items ≡ spec.carriers_of table publications.now) }
 {

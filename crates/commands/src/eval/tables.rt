@@ -4,13 +4,13 @@ ghost use Rattle.std.specs.Prelude.{◌≡◌, ◌<◌, ◌≤◌, length, IfSom
 ghost use Rattle.commands.specs.Eval.Tables.{schema_word, name_word, table_named_by};
 
 use crate::eval::carriers::Carrier;
-use filter_tree::Table;
+use filter_tree::{Table, TableNumber};
 
 /// A table of a catalog: its number there, and the publications that carry it. A catalog has at most 64 tables of at
 /// most 100 columns.
 #[derive(Clone, Copy)]
 pub struct CatalogTable<'a> {
-    pub number: usize,
+    pub number: TableNumber,
     pub table: &'a Table,
     pub carriers: &'a [Carrier<'a>],
     ghost early: { number < 64 },
@@ -26,7 +26,7 @@ fn table_name(word: &str) -> (&str, &str)
 }
 
 /// The number of the table that a word names: `name` of the schema public, or `schema.name`.
-pub fn find_table(tables: &[Table], word: &str) -> Option<usize>
+pub fn find_table(tables: &[Table], word: &str) -> Option<TableNumber>
     ensures value { result ≡ table_named_by word.now tables.now }
     ensures within { IfSome result (λ number. number < length tables.now) }
 {

@@ -9,8 +9,8 @@ ghost use Rattle.commands.specs.Names.{spaced, plain_table};
 
 use crate::names::{push_table, push_word, subscriber_name};
 use cert_maker::Made;
-use filter_tree::Row;
-use pub_catalog::{Catalog, Subscription};
+use filter_tree::{Row, TableNumber};
+use pub_catalog::{Catalog, SubscriberNumber, Subscription};
 use split_cert::write;
 use sql_reader::write_row;
 use std::alloc::{AllocError, Global};
@@ -19,7 +19,7 @@ use std::alloc::{AllocError, Global};
 fn push_owners(
     line: &mut String,
     subscriptions: &[Subscription],
-    owners: &[usize],
+    owners: &[SubscriberNumber],
 ) -> Result<(), AllocError>
     ensures { OnOk result (string_bytes line.new ≡ string_bytes line.old ++ spaced
         (spec.owners_text subscriptions.now owners.now ∷ [])) }
@@ -41,9 +41,9 @@ fn push_owners(
 fn counter_line(
     alloc: Global,
     catalog: &Catalog,
-    number: usize,
+    number: TableNumber,
     row: &Row,
-    owners: &[usize],
+    owners: &[SubscriberNumber],
 ) -> Result<String, AllocError>
     ensures { IfOk result (λ line. string_bytes line ≡ codes "counter" ++ spaced
         (spec.counter_words (catalog_view catalog.now) number row.now owners.now)) }
@@ -60,7 +60,7 @@ fn counter_line(
 fn undecided_line(
     alloc: Global,
     catalog: &Catalog,
-    number: usize,
+    number: TableNumber,
     words: &str,
 ) -> Result<String, AllocError>
     ensures { IfOk result (λ line. string_bytes line ≡ words.now ++ spaced
@@ -75,7 +75,7 @@ fn undecided_line(
 pub fn finding_line(
     alloc: Global,
     catalog: &Catalog,
-    number: usize,
+    number: TableNumber,
     made: &Made<'_>,
 ) -> Result<String, AllocError>
     ensures { IfOk result (λ line. string_bytes line ≡ spec.line_for (catalog_view catalog.now) number

@@ -8,7 +8,7 @@ ghost use Rattle.commands.specs.Simulate.Views as spec;
 
 use crate::names::{push_table_name, subscriber_name};
 use crate::simulate::answers::push_position;
-use filter_tree::{Row, Table};
+use filter_tree::{Row, Table, TableNumber};
 use pub_catalog::Catalog;
 use shard_world::{SubscriberView, View};
 use sql_reader::write_row;
@@ -20,7 +20,7 @@ fn push_row(
     alloc: Global,
     before: &str,
     tables: &[Table],
-    number: usize,
+    number: TableNumber,
     row: &Row,
 ) -> Result<(), AllocError>
     ensures { OnOk result (string_bytes text.new ≡ string_bytes text.old
@@ -40,7 +40,7 @@ fn push_rows(
     alloc: Global,
     before: &str,
     tables: &[Table],
-    number: usize,
+    number: TableNumber,
     rows: &[Row],
 ) -> Result<(), AllocError>
     ensures { OnOk result (string_bytes text.new ≡ string_bytes text.old
