@@ -11,10 +11,12 @@ pub mod Inside
 pub mod KeyLemmas
 pub mod LayoutRoomLemmas
 pub mod NamedLemmas
+pub mod ReadPieces
 pub mod RelationSteps
 pub mod Rules
 pub mod Safety
 pub mod SentItems
+pub mod SpelledTokens
 pub mod StartAnswered
 pub mod StartLengths
 pub mod StartTexts
@@ -22,3 +24,4 @@ pub mod StreamSteps
 pub mod SwapLemmas
 pub mod TextLemmas
 pub mod TruncateSteps
+pub mod WrittenPieces

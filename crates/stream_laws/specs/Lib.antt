@@ -1,4 +1,5 @@
 pub mod Asking
+pub mod CommandSpelling
 pub mod Cutting
 pub mod ShardRows
 pub mod Following

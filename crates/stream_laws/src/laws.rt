@@ -1,6 +1,7 @@
 //! Laws about streams.
 
 ghost use Rattle.stream_laws.specs.Asking.{CommandsAreRead, StartsAreAnswered};
+ghost use Rattle.stream_laws.specs.CommandSpelling.{TokensAreSpelled};
 ghost use Rattle.stream_laws.specs.Cutting.{FirstPartsAreCut};
 ghost use Rattle.stream_laws.specs.Following.{ItemsAreFollowed};
 ghost use Rattle.stream_laws.specs.FollowingBytes.{BytesAreFollowed, FedFollow, NothingIsFed, StoppedFollow, LostFollow, FirstFollows, FollowsLonger};
@@ -61,6 +62,15 @@ pub fn logs_fit_layouts()
 /// PostgreSQL 15, 55.4. Streaming Replication Protocol.
 pub fn streams_can_be_sent()
     ensures { StreamsCanBeSent }
+{}
+
+/// A law about the tokens of a text, which is a replication command or a list of names. The tokens that are read are
+/// those that the text spells, whatever the text: each as it is written, in order, with or without blanks before,
+/// between and after them. So no text spells two lists of tokens, and a text that spells none is not read.
+///
+/// PostgreSQL 15, 55.4. Streaming Replication Protocol, and 4.1. Lexical Structure.
+pub fn tokens_are_spelled()
+    ensures { TokensAreSpelled }
 {}
 
 /// A law about the command with which a subscriber requests its stream. The publisher reads what was meant: the slot,
