@@ -1,4 +1,5 @@
 pub mod Doubling
 pub mod Joins
+pub mod Numbers
 pub mod Pieces
 pub mod Steps

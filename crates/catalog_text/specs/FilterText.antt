@@ -1,7 +1,8 @@
 -- A row filter as SQL, with exactly the parentheses that it needs: PostgreSQL 15, "SQL Syntax", 4.1.2 Constants,
 -- 4.1.6 Operator Precedence and 4.2 Value Expressions, with the operators of 9.2, 9.3 and 9.24.
-use Rattle.std.specs.Prelude.{ℕ, nat_lt, Bool, true, false, List, [], ◌++◌, Option, Some, None, slice_get, codes}
-use Rattle.std.specs.Fmt.{signed_decimal}
+use Rattle.std.specs.Prelude.{ℕ, suc, nat_lt, ℤ, pos, negsuc, Bool, true, false, List, [], ◌++◌, map, ◌==◌, if◌then◌else◌, Option, Some, None, slice_get, codes}
+use Rattle.std.specs.Char.{digit_char}
+use Rattle.std.specs.Int.Digits.{digits_of}
 use Rattle.std.specs.List.{join_by}
 use Rattle.filter_tree.specs.Datum.{Constant, Number, Truth, Bytes}
 use Rattle.filter_tree.specs.Expr.{AtomOf, Cmp, IsNull, In, Between, Distinct, Expr, Const, Atom, Not, And, Or, Is}
@@ -36,18 +37,23 @@ name_text name = in_quotes 34 name
 abbrev pub column_sql : List Column → ℕ → List ℕ
 column_sql columns number = text_by (λ column. name_text column.name) (slice_get columns number)
 
+-- a number in decimal digits, the highest first, with a minus sign if it is below 0
+abbrev pub number_text : ℤ → List ℕ
+number_text (pos n) = if n == 0 then codes "0" else map digit_char (digits_of 10 n)
+number_text (negsuc n) = codes "-" ++ map digit_char (digits_of 10 (suc n))
+
 abbrev pub truth_text : Bool → List ℕ
 truth_text true = codes "TRUE"
 truth_text false = codes "FALSE"
 
 abbrev pub constant_text : Constant → List ℕ
-constant_text (Number number) = signed_decimal number
+constant_text (Number number) = number_text number
 constant_text (Truth known) = truth_text known
 constant_text (Bytes text) = in_quotes 39 text
 
 abbrev pub term_text : List Column → Term → List ℕ
 term_text columns (Col column) = column_sql columns column
-term_text columns (Mod column divisor) = column_sql columns column ++ (codes " % " ++ signed_decimal divisor)
+term_text columns (Mod column divisor) = column_sql columns column ++ (codes " % " ++ number_text divisor)
 
 abbrev pub op_text : Op → List ℕ
 op_text Eq = codes " = "
@@ -102,7 +108,7 @@ atom_text columns wanted negated (In term constants) =
     ++ (join_by constant_text (codes ", ") constants ++ codes ")")))
 atom_text columns wanted negated (Between term low high) =
     term_text columns term ++ (not_text negated ++ (codes " BETWEEN "
-    ++ (signed_decimal low ++ (codes " AND " ++ signed_decimal high))))
+    ++ (number_text low ++ (codes " AND " ++ number_text high))))
 atom_text columns wanted negated (Distinct term constant) =
     at_level wanted level.Test (term_text columns term ++ (codes " IS" ++ (not_text negated
     ++ (codes " DISTINCT FROM " ++ constant_text constant))))

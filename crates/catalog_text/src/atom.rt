@@ -80,6 +80,24 @@ fn write_comparison(
     write_constant(constant, text)
 }
 
+/// Writes `BETWEEN`, with or without the word NOT before it.
+fn write_between(
+    columns: &[Column],
+    term: Term,
+    negated: bool,
+    low: i64,
+    high: i64,
+    text: &mut String,
+) -> Result<(), AllocError>
+    ensures { OnOk result (string_bytes text.new ≡ string_bytes text.old ++ (spec.term_text columns.now term
+        ++ (spec.not_text negated ++ (codes " BETWEEN "
+        ++ (spec.number_text low ++ (codes " AND " ++ spec.number_text high)))))) }
+{
+    let not = not_text(negated);
+    write_term(columns, term, text)?;
+    write!(text, "{not} BETWEEN {low} AND {high}")
+}
+
 /// Writes an atom, or NOT of it.
 #[tactic(auto, using(crate::proofs::Pieces::signed_parts))]
 pub(crate) fn write_atom(
@@ -111,8 +129,7 @@ pub(crate) fn write_atom(
             text.push(')')
         }
         Atom::Between(term, low, high) => {
-            write_term(columns, *term, text)?;
-            write!(text, "{not} BETWEEN {low} AND {high}")
+            write_between(columns, *term, context.negated, *low, *high, text)
         }
         Atom::Distinct(term, constant) => {
             plain.write_head(Level::Test, text)?;

@@ -59,12 +59,20 @@ pub(crate) fn truth_text(known: bool) -> &'static str
     if known { "TRUE" } else { "FALSE" }
 }
 
+/// Writes a number in decimal.
+#[tactic(auto, using(crate::proofs::Numbers::number_written))]
+pub(crate) fn write_number(number: i64, text: &mut String) -> Result<(), AllocError>
+    ensures { OnOk result (string_bytes text.new ≡ string_bytes text.old ++ spec.number_text number) }
+{
+    write!(text, "{number}")
+}
+
 pub(crate) fn write_constant(constant: &Literal, text: &mut String) -> Result<(), AllocError>
     ensures { OnOk result (string_bytes text.new
         ≡ string_bytes text.old ++ spec.constant_text (constant_view constant.now)) }
 {
     match constant {
-        Literal::Int(number) => write!(text, "{number}"),
+        Literal::Int(number) => write_number(*number, text),
         Literal::Bool(known) => text.push_str(truth_text(*known)),
         Literal::Text(bytes) => write_quoted('\'', bytes.as_str(), text),
     }
@@ -81,7 +89,8 @@ pub(crate) fn write_term(
         Term::Col(column) => write_column_name(columns, column, text),
         Term::Mod(column, divisor) => {
             write_column_name(columns, column, text)?;
-            write!(text, " % {divisor}")
+            text.push_str(" % ")?;
+            write_number(divisor, text)
         }
     }
 }
