@@ -89,7 +89,7 @@ fn write_publications(
     Ok(())
 }
 
-/// Writes the name of the publication of this number; nothing if there is none.
+/// Writes the name of the publication with this number; nothing if there is none.
 fn write_publication_name(
     publications: &[Publication],
     number: usize,
@@ -104,7 +104,7 @@ fn write_publication_name(
     }
 }
 
-/// Writes the names of the publications of these numbers, separated by a comma and a space.
+/// Writes the names of the publications with these numbers, separated by a comma and a space.
 fn write_publication_names(
     publications: &[Publication],
     numbers: &[usize],

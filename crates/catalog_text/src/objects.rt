@@ -15,7 +15,7 @@ use filter_tree::{Column, Filter, Table};
 use pub_catalog::Entry;
 use std::alloc::{AllocError, Global};
 
-/// The schema of the table of this number; an empty name if there is none.
+/// The schema of the table with this number; an empty name if there is none.
 fn schema_of(tables: &[Table], number: usize) -> &str
     ensures { result.now ≡ spec.schema_of tables.now number }
 {
@@ -25,7 +25,7 @@ fn schema_of(tables: &[Table], number: usize) -> &str
     }
 }
 
-/// Whether one of the entries is for the table of this number.
+/// Whether one of the entries is for the table with this number.
 fn has_table(entries: &[Entry], number: usize) -> bool
     ensures { result ≡ spec.has_entry number (map entry_view entries.now) }
 {
@@ -63,7 +63,7 @@ fn has_schema(tables: &[Table], entries: &[Entry], schema: &str) -> bool
     false
 }
 
-/// Whether the table of this number is before the tables of all the entries.
+/// Whether the table with this number is before the tables of all the entries.
 fn is_before(number: usize, entries: &[Entry]) -> bool
     ensures { result ≡ spec.is_before number (map entry_view entries.now) }
 {
@@ -89,7 +89,7 @@ fn are_ascending(entries: &[Entry]) -> bool
     true
 }
 
-/// Whether the table of this number and schema has an entry, or no table of the schema has one.
+/// Whether the table with this number and schema has an entry, or no table of the schema has one.
 fn is_listed(tables: &[Table], entries: &[Entry], number: usize, schema: &str) -> bool
     ensures { result ≡ spec.is_listed_whole tables.now (map entry_view entries.now) number schema.now }
 {

@@ -41,7 +41,7 @@ fn write_columns(columns: &[Column], text: &mut String) -> Result<(), AllocError
     Ok(())
 }
 
-/// Writes the names of the columns of these numbers, separated by a comma and a space.
+/// Writes the names of the columns with these numbers, separated by a comma and a space.
 fn write_column_names(
     columns: &[Column],
     numbers: &[usize],

@@ -39,7 +39,7 @@ pub(crate) fn write_name(name: &str, text: &mut String) -> Result<(), AllocError
     write_quoted('"', name, text)
 }
 
-/// Writes the name of the column of this number; nothing if there is none.
+/// Writes the name of the column with this number; nothing if there is none.
 pub(crate) fn write_column_name(
     columns: &[Column],
     number: usize,

@@ -98,7 +98,7 @@ fn answer<'b>(
     Ok(tested(alloc, arena, table, &shares, steps)?)
 }
 
-/// A certificate of the catalog's table of this number, from 0, or a row that shows that no certificate exists. The
+/// A certificate of the catalog's table with this number, from 0, or a row that shows that no certificate exists. The
 /// plan is the catalog's own.
 ///
 /// A certificate is returned only if `check_one` accepts it with the table and its shares, and if it has at most

@@ -34,7 +34,7 @@ pub enum InputFault<'a> {
     Catalog(ReadError),
     /// There is no table of this name, which is printed as it was given.
     Table(&'a str),
-    /// The line of certificates of this number, from 1, is not a certificate, for this reason.
+    /// The line of certificates with this number, from 1, is not a certificate, for this reason.
     Certificate { line: usize, error: CertError },
     /// The script has this fault.
     Script(ReadError),

@@ -21,8 +21,8 @@ use pub_reader::read_catalog;
 use replica_identity::{Plan, plan};
 use std::alloc::Global;
 
-/// Writes the line of the table of this number, and returns whether it is a certificate. The certificate is in an arena
-/// of its own.
+/// Writes the line of the table with this number, and returns whether it is a certificate. The certificate is in an
+/// arena of its own.
 #[tactic(auto, using(crate::proofs::FindingLines::table_written, crate::proofs::FindingLines::table_stopped))]
 fn write_table<'a, W: Writer>(
     alloc: Global,

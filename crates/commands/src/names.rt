@@ -10,7 +10,7 @@ use filter_tree::{Column, Table, TableNumber};
 use pub_catalog::{Publication, SubscriberNumber, Subscription};
 use std::alloc::AllocError;
 
-/// The name of the publication of this number.
+/// The name of the publication with this number.
 pub fn publication_name(publications: &[Publication], number: usize) -> &str
     ensures { result.now ≡ spec.plain_publication (map publication_view publications.now) number }
 {
@@ -20,7 +20,7 @@ pub fn publication_name(publications: &[Publication], number: usize) -> &str
     }
 }
 
-/// The name of the subscriber of this number, which is that of its subscription.
+/// The name of the subscriber with this number, which is that of its subscription.
 pub fn subscriber_name(subscriptions: &[Subscription], number: SubscriberNumber) -> &str
     ensures { result.now ≡ spec.subscriber_name subscriptions.now number }
 {
@@ -39,7 +39,7 @@ fn column_named(columns: &[Column], number: usize) -> &str
     }
 }
 
-/// The name of a column of the table of this number.
+/// The name of a column of the table with this number.
 pub fn column_name(tables: &[Table], table: TableNumber, number: usize) -> &str
     ensures { result.now ≡ spec.plain_column tables.now table number }
 {
@@ -66,7 +66,7 @@ fn push_named(line: &mut String, table: &Table) -> Result<(), AllocError>
     line.push_str(table.name.as_str())
 }
 
-/// Writes the name of the table of this number.
+/// Writes the name of the table with this number.
 pub fn push_table_name(
     line: &mut String,
     tables: &[Table],
@@ -80,7 +80,7 @@ pub fn push_table_name(
     }
 }
 
-/// Writes a space, and the name of the table of this number.
+/// Writes a space, and the name of the table with this number.
 pub fn push_table(
     line: &mut String,
     tables: &[Table],

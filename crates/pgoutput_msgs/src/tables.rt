@@ -12,7 +12,8 @@ use std::alloc::{AllocError, Global};
 /// The OID of the first table of a catalog. The others follow in their order.
 const FIRST_OID: u32 = 16_384;
 
-/// The OID of the table of this number, which is counted from 0: 16384 and the number. The OIDs are this project's own.
+/// The OID of the table with this number, which is counted from 0: 16384 and the number. The OIDs are this project's
+/// own.
 pub fn oid_of(table: TableNumber) -> u32
     requires { table < 2 ^ 31 }
     ensures { result ≡ spec.oid_of table }
@@ -68,7 +69,7 @@ fn column_of(alloc: Global, column: &Column, is_key: bool) -> Result<RelationCol
     })
 }
 
-/// The Relation message of the table of this number, which is counted from 0: its columns in their order; the flag
+/// The Relation message of the table with this number, which is counted from 0: its columns in their order; the flag
 /// marks those of the replica identity, under FULL all. Its names are UTF-8 (`texts`). The only error is out of memory.
 ///
 /// PostgreSQL 15, 55.9. Logical Replication Message Formats (Relation).

@@ -28,7 +28,7 @@ use shard_checker::Checked;
 use std::alloc::{AllocError, Global};
 use tables_log::Commit;
 
-/// The messages that report a commit to the subscriber of this number: Begin, then for each change that is for it the
+/// The messages that report a commit to the subscriber with this number: Begin, then for each change that is for it the
 /// message of what it gets, and Commit; none if no change is for it. `relation_sent` is, for each table by its number,
 /// whether its Relation was sent: one that was not is sent directly before the first message that names its table,
 /// before a Truncate in its order, and is marked from then on. Each message fits its layout (`room`), the bytes that
@@ -93,8 +93,8 @@ fn tables_of(checked: &Checked) -> &[Table]
     checked.catalog().tables.as_slice()
 }
 
-/// Reports to the subscriber of this number the changes of a commit that are for it, and tables whose Relation was not
-/// sent: the messages between Begin and Commit of `messages_of`, which a sink takes one after the other.
+/// Reports to the subscriber with this number the changes of a commit that are for it, and tables whose Relation was
+/// not sent: the messages between Begin and Commit of `messages_of`, which a sink takes one after the other.
 /// `relation_sent` is, for each table by its number, whether its Relation was sent. `owners` are the subscribers that
 /// get something from each of the first changes; a change that is not for the subscriber by its set is skipped. The
 /// only error is out of memory; then `sink` has taken the first few messages.

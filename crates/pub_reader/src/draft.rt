@@ -173,8 +173,8 @@ impl Draft {
         )
     }
 
-    /// Refuses an index of the table of this number, if its name is taken by a table or an index of the table's schema,
-    /// or if it is one too many.
+    /// Refuses an index of the table with this number, if its name is taken by a table or an index of the table's
+    /// schema, or if it is one too many.
     #[tactic(auto, unfolding(crate::specs::Indexes::check_new_index))]
     pub fn check_new_index(&self, number: TableNumber, name: &PlacedName) -> Result<(), ReadError>
         requires { number < length (draft_view self.now).tables }

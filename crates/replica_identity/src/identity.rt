@@ -27,7 +27,7 @@ fn copied(alloc: Global, numbers: &[usize]) -> Result<Vec<usize>, AllocError>
     Ok(copy)
 }
 
-/// The columns of a table's unique index of this number; none if there is no such index.
+/// The columns of a table's unique index with this number; none if there is no such index.
 pub(crate) fn index_columns(table: &Table, number: usize) -> &[usize]
     ensures { result.now ≡ spec.index_columns (slice_get table.now.indexes number) }
 {
@@ -53,7 +53,7 @@ pub fn identity_columns(alloc: Global, table: &Table) -> Result<Vec<usize>, Allo
     }
 }
 
-/// Whether a table's replica identity has the column of this number, from 0.
+/// Whether a table's replica identity has the column with this number, from 0.
 ///
 /// PostgreSQL 15, SQL Commands, ALTER TABLE (REPLICA IDENTITY).
 #[tactic(auto, using(crate::proofs::NumberLemmas::has_numbers))]

@@ -34,7 +34,7 @@ pub struct Claims {
     pub steps: Vec<LeafMasks>,
 }
 
-/// Puts the sets in the place of this number, if there is one.
+/// Puts the sets in the place with this number, if there is one.
 fn put(list: &mut [LeafMasks], number: usize, masks: LeafMasks)
     ensures { list.new ≡ slice_set list.old number masks }
 {
@@ -66,7 +66,7 @@ impl Claims {
         Ok(())
     }
 
-    /// Records what the atom of this number may be from here on.
+    /// Records what the atom with this number may be from here on.
     pub fn record(&mut self, number: usize, mask: Mask)
         ensures { spec.Records self.old self.new number mask }
     {

@@ -13,7 +13,7 @@ pub struct Range {
     pub greatest: i64,
 }
 
-/// The type of the column of this number, from 0; a column past the last counts as a bigint.
+/// The type of the column with this number, from 0; a column past the last counts as a bigint.
 pub fn kind_at(columns: &[Column], column: usize) -> ColType
     ensures { result ≡ spec.kind_at columns.now column }
 {

@@ -63,7 +63,7 @@ impl Known {
         })
     }
 
-    /// Records that the atom of this number was found to have the value.
+    /// Records that the atom with this number was found to have the value.
     pub fn learn(&mut self, number: u32, value: Tri) -> Result<(), AllocError>
         ensures { OnOk result (spec.Learns self.old self.new number value) }
     {

@@ -22,7 +22,7 @@ pub fn mask_at(masks: &[Mask], number: usize) -> Mask
     }
 }
 
-/// Puts the set in the place of this number, if there is one.
+/// Puts the set in the place with this number, if there is one.
 pub fn put(masks: &mut [Mask], number: usize, mask: Mask)
     ensures { masks.new ≡ slice_set masks.old number mask }
 {

@@ -16,7 +16,7 @@ use crate::walk::Walk;
 use split_cert::Node;
 use std::alloc::Allocator;
 
-/// Whether no value, not even null, is left for the term of this number at the end of the path.
+/// Whether no value, not even null, is left for the term with this number at the end of the path.
 fn is_empty<A: Allocator>(subject: &Subject<'_, A>, walk: &Walk<'_, A>, number: u32) -> bool
     requires agrees { WalkAgrees subject.now walk.now }
     requires there { number < length subject.now.terms.now }

@@ -42,7 +42,7 @@ fn check_subject<'a, A: Allocator, C: Source>(
     Ok(())
 }
 
-/// Checks the certificate of the table of this number.
+/// Checks the certificate of the table with this number.
 pub fn check_table<A: Allocator, C: Source>(
     alloc: Global,
     number: TableNumber,

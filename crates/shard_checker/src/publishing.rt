@@ -9,14 +9,14 @@ ghost use Rattle.shard_checker.specs.Sound as sound;
 use crate::error::{CheckError, Operation};
 use pub_catalog::{Operations, Publication, Subscription};
 
-/// Whether the subscription names the publication of this number.
+/// Whether the subscription names the publication with this number.
 fn is_listed(publication: usize, subscription: &Subscription) -> bool
     ensures { result ≡ sound.is_listed publication subscription.now }
 {
     subscription.publications.as_slice().contains(&publication)
 }
 
-/// Whether some subscription names the publication of this number.
+/// Whether some subscription names the publication with this number.
 pub fn is_taken(subscriptions: &[Subscription], publication: usize) -> bool
     ensures { result ≡ sound.is_taken subscriptions.now publication }
 {

@@ -29,7 +29,7 @@ use replica_identity::{Plan, Share};
 use split_cert::Cert;
 use std::alloc::{AllocError, Allocator, Global};
 
-/// The shares of the subscribers in the table of this number, as `check_one` takes them. The only error is out of
+/// The shares of the subscribers in the table with this number, as `check_one` takes them. The only error is out of
 /// memory.
 pub fn shares_in<'a>(
     alloc: Global,
@@ -47,7 +47,7 @@ pub fn shares_in<'a>(
     Ok(shares)
 }
 
-/// Checks the certificate of the table of this number.
+/// Checks the certificate of the table with this number.
 fn check_certificate<C: Source>(
     alloc: Global,
     plan: &Plan,

@@ -25,7 +25,7 @@ pub struct Subject<'a, A: Allocator> {
     pub candidates: &'a CandidateSets,
 }
 
-/// The atom of this number.
+/// The atom with this number.
 #[tactic(auto, using(crate::proofs::PlaceLemmas::places))]
 pub fn atom_at<'a, A: Allocator>(atoms: &[&'a Atom<A>], number: u32) -> Option<&'a Atom<A>>
     ensures { option_map (λ atom. atom_view atom.now) result ≡ slice_get (atoms_view atoms.now) number }
@@ -36,7 +36,7 @@ pub fn atom_at<'a, A: Allocator>(atoms: &[&'a Atom<A>], number: u32) -> Option<&
     }
 }
 
-/// The term of this number.
+/// The term with this number.
 pub fn term_at(terms: &[Term], number: u32) -> Option<Term>
     ensures { result ≡ slice_get terms.now number }
 {

@@ -79,7 +79,7 @@ fn extend<'a, A: Allocator>(
     Ok(())
 }
 
-/// Enters the branch of a split by the atom of this number in which the atom has the value.
+/// Enters the branch of a split by the atom with this number in which the atom has the value.
 #[tactic(auto, using(crate::proofs::WalkInvariantLemmas::entering))]
 fn enter<'a, A: Allocator>(
     subject: &Subject<'a, A>,

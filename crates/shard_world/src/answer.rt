@@ -9,7 +9,7 @@ pub enum Answer {
     Committed(CommitNumber),
     /// The commit is refused, and nothing changes.
     Refused(CommitError),
-    /// There is no subscriber of this number, and nothing changes.
+    /// There is no subscriber with this number, and nothing changes.
     NoSubscriber,
     /// The subscriber has no connection, and nothing changes.
     NotOpen,
@@ -23,9 +23,9 @@ pub enum Answer {
     NotStarted,
     /// The publisher has no further commit to take, and nothing changes.
     Idle,
-    /// The commit of this number has no change for the subscriber.
+    /// The commit with this number has no change for the subscriber.
     Skipped(CommitNumber),
-    /// The messages that report the commit of this number to the subscriber wait to be delivered.
+    /// The messages that report the commit with this number to the subscriber wait to be delivered.
     Sent(CommitNumber),
     /// A keepalive waits to be delivered.
     Kept,

@@ -11,7 +11,7 @@ use pub_catalog::{Catalog, Publication, Subscription};
 use std::alloc::{AllocError, Global};
 use test_subscriber::Subscriber;
 
-/// A copy of a publication's name; empty if there is no publication of this number.
+/// A copy of a publication's name; empty if there is no publication with this number.
 fn publication_name(
     alloc: Global,
     publications: &[Publication],
@@ -27,7 +27,7 @@ fn publication_name(
     Ok(String::from_str(alloc, name)?)
 }
 
-/// Copies of the names of the publications of these numbers, in their order.
+/// Copies of the names of the publications with these numbers, in their order.
 fn publication_names(
     alloc: Global,
     publications: &[Publication],

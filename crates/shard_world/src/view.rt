@@ -61,7 +61,7 @@ fn rows_of_copies(
     Ok(rows)
 }
 
-/// What is in a subscriber of this number.
+/// What is in a subscriber with this number.
 fn seen_of(
     alloc: Global,
     book: &Book,

@@ -22,8 +22,8 @@ fn copy_at<A: Allocator, B: Allocator + Clone>(
     }
 }
 
-/// The row's values in the columns of these numbers, from 0, in their order; null for a column past the row's end. The
-/// only error is out of memory.
+/// The row's values in the columns with these numbers, from 0, in their order; null for a column past the row's end.
+/// The only error is out of memory.
 pub fn values_at<A: Allocator, B: Allocator + Clone>(
     alloc: B,
     columns: &[usize],

@@ -39,7 +39,7 @@ impl PublicationAnswer {
     }
 }
 
-/// What the filter of this number says, which is evaluated if the memo does not know.
+/// What the filter with this number says, which is evaluated if the memo does not know.
 #[tactic(auto, using(crate::proofs::Answering::known_filter))]
 fn truth_of(memo: &Memo, said: Said, number: usize, filter: &Filter, row: &Row) -> Tri
     requires { KnowsOne (Some (expr_view filter.now)) number row.now memo.now said }
@@ -51,7 +51,7 @@ fn truth_of(memo: &Memo, said: Said, number: usize, filter: &Filter, row: &Row) 
     }
 }
 
-/// What the publication of this number says of a row.
+/// What the publication with this number says of a row.
 pub fn answer_of(
     memo: &Memo,
     said: Said,
@@ -80,7 +80,7 @@ fn push_answer(line: &mut String, name: &str, answer: PublicationAnswer) -> Resu
     line.push_str(answer.told())
 }
 
-/// Writes what the publication of this number says of a row after what is on the line.
+/// Writes what the publication with this number says of a row after what is on the line.
 fn push_said(
     line: &mut String,
     memo: &Memo,

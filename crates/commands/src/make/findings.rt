@@ -37,7 +37,7 @@ fn push_owners(
     }
 }
 
-/// The line of a row that shows that the table of this number is not sharded correctly.
+/// The line of a row that shows that the table with this number is not sharded correctly.
 fn counter_line(
     alloc: Global,
     catalog: &Catalog,
@@ -71,7 +71,7 @@ fn undecided_line(
     Ok(line)
 }
 
-/// The line of what was found for the table of this number.
+/// The line of what was found for the table with this number.
 pub fn finding_line(
     alloc: Global,
     catalog: &Catalog,

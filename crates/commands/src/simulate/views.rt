@@ -14,7 +14,7 @@ use shard_world::{SubscriberView, View};
 use sql_reader::write_row;
 use std::alloc::{AllocError, Global};
 
-/// Writes the line of a row of the table of this number, after this prefix.
+/// Writes the line of a row of the table with this number, after this prefix.
 fn push_row(
     text: &mut String,
     alloc: Global,
@@ -34,7 +34,7 @@ fn push_row(
     Ok(())
 }
 
-/// Writes a line for each row of the table of this number.
+/// Writes a line for each row of the table with this number.
 fn push_rows(
     text: &mut String,
     alloc: Global,
