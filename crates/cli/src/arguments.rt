@@ -6,6 +6,7 @@ ghost use Rattle.cli.specs.CommandLine.{IsAsking, IsHelp, IsHelpKind, IsOfError,
 
 use crate::requests::{Request, request_of};
 use crate::tree::command;
+use crate::values::wrong_value;
 use clap::error::ErrorKind;
 use commands::Failure;
 use std::alloc::{AllocError, Global};
@@ -65,9 +66,6 @@ pub fn parse<'a, S: AsStr>(alloc: Global, words: &'a [S]) -> Result<Invocation<'
     };
     match request_of(&matches) {
         Some(request) => Ok(Invocation::Answer(request)),
-        None => Err(Failure::CommandLine(String::from_str(
-            alloc,
-            "expected eval TABLE, show, check, make, simulate, serve or publish, a port of 1 to 65535 (for publish also 0), 1 to 1000 connections, 1 to 86400 seconds, text or json, and a limit of 1 to 1000000000",
-        )?)),
+        None => Err(Failure::CommandLine(wrong_value(alloc, &matches)?)),
     }
 }

@@ -16,5 +16,6 @@ mod script;
 mod serve;
 mod tree;
 mod unserved;
+mod values;
 
 pub use program::{run, run_serving};

@@ -113,7 +113,7 @@ fn check_request<'a>(check: &ArgMatches<'a>) -> Request<'a>
 }
 
 /// The most commits that a log may take.
-const MAX_LIMIT: u32 = 1_000_000_000;
+pub(crate) const MAX_LIMIT: u32 = 1_000_000_000;
 
 /// How many commits a log takes by default.
 const LIMIT: u32 = 1_000_000;
@@ -240,7 +240,7 @@ fn commands_by(word: Option<&str>) -> Option<Option<u16>>
 }
 
 /// The most seconds of any timeout.
-const MOST_SECONDS: u32 = 86_400;
+pub(crate) const MOST_SECONDS: u32 = 86_400;
 
 /// The number of seconds that a word spells, if a timeout may be that long.
 fn read_seconds(word: &str) -> Option<u32>

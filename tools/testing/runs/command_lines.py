@@ -32,8 +32,20 @@ REFUSED: list[tuple[str, ...]] = [
     ("simulate", "--limit"),
 ]
 
-# Invalid limits of a log.
-LIMITS = ["0", "1000000001", "4294967297", "1e3"]
+# Invalid values of options, and what each option takes.
+WRONG_VALUES: list[tuple[tuple[str, ...], str]] = [
+    *((("simulate", "--limit", limit), f"--limit takes 1 to 1000000000, not {limit}")
+      for limit in ("0", "1000000001", "4294967297", "1e3")),
+    (("serve", "--port", "0"), "--port takes 1 to 65535, not 0"),
+    (("serve", "--port", "65536"), "--port takes 1 to 65535, not 65536"),
+    (("serve", "--port", "5440", "--limit", "x"), "--limit takes 1 to 1000000000, not x"),
+    (("serve", "--port", "5440", "--connections", "1001"), "--connections takes 1 to 1000, not 1001"),
+    (("publish", "--port", "99999"), "--port takes 0 to 65535, not 99999"),
+    (("publish", "--port", "0", "--commands", "-1"), "--commands takes 0 to 65535, not -1"),
+    *((("publish", "--port", "0", option, "86401"), f"{option} takes 1 to 86400, not 86401")
+      for option in ("--start-timeout", "--write-timeout", "--keepalive", "--timeout")),
+    (("publish", "--port", "0", "--log", "xml"), "--log takes text or json"),
+]
 
 # Words that request help, and a part of the help.
 HELP: list[tuple[tuple[str, ...], str]] = [
@@ -79,10 +91,9 @@ def cases() -> Iterator[Case]:
     refused = Outline(begin="command line\nerror: ", end="try '--help'.\n")
     for words in REFUSED:
         yield Case(f"the words {words} are refused", words, BASE, 2, refused)
-    unlimited = Outline(begin="command line\nexpected eval TABLE", end="a limit of 1 to 1000000000\n", lines=2)
-    for limit in LIMITS:
-        words = ("simulate", "--limit", limit)
-        yield Case(f"the words {words} are refused", words, BASE, 2, unlimited)
+    for words, said in WRONG_VALUES:
+        expected = f"command line\nerror: {said}\n\nFor more information, try '--help'.\n"
+        yield Case(f"the words {words} are refused", words, BASE, 2, expected)
     for words, part in HELP:
         yield Case(f"the words {words} have {part!r} shown", words, BASE, 0, Outline(within=part))
     for words, expected in VERSIONS:
