@@ -70,6 +70,7 @@ PARTS = [
     Part("many", "judge --databases, --watch", (PROGRAM, POSTGRESQL, PGLAST), "judged.many_checks:check_many"),
     Part("json", "judge's JSON", (PROGRAM, SERVER, PGLAST, JSONSCHEMA), "judged.json_checks:check_json"),
     Part("migrations", "examples/ci", (PROGRAM, SERVER, PGLAST), "judged.migrations_checks:check_migrations"),
+    Part("outputs", "judge without output or memory", (PROGRAM, SERVER, PGLAST), "judged.outputs_checks:check_outputs"),
     Part("intents", "judge with intentions", (PROGRAM, SERVER, PGLAST), "judged.intents_checks:check_intents"),
     Part("versions", "judge of later versions", (PROGRAM, SERVER, PGLAST), "judged.versions_checks:check_versions"),
     Part("what-if", "judge --with", (PROGRAM, POSTGRESQL, PGLAST), "judged.what_if_checks:check_what_if"),

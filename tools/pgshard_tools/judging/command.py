@@ -1,9 +1,9 @@
 """The command line of tools/judge."""
 
 import contextlib
-import io
 import os
 import sys
+import traceback
 from collections.abc import Mapping, Sequence
 from dataclasses import dataclass
 
@@ -13,6 +13,7 @@ from pgshard_tools.judging import (
     intents,
     many,
     monitoring,
+    outputs,
     pages,
     parser,
     repairing,
@@ -22,10 +23,11 @@ from pgshard_tools.judging import (
     shares,
     what_if,
 )
-from pgshard_tools.judging.faults import BAD_COMMAND, NO_OUTPUT, NOT_READ, SOUND, Fault
+from pgshard_tools.judging.faults import BAD_COMMAND, NO_OUTPUT, NO_PROGRAM, NOT_READ, SOUND, Fault
 from pgshard_tools.judging.findings import findings_of, status_with
 from pgshard_tools.judging.judgements import judged_all, purposes_of, status_of
 from pgshard_tools.judging.options import Options, options_of
+from pgshard_tools.judging.outputs import NoOutput
 from pgshard_tools.judging.repairing import Repairer
 from pgshard_tools.judging.session import Session
 from pgshard_tools.judging.verdicts import Verdict
@@ -42,29 +44,51 @@ class Judgement:
 
 
 def main() -> int:
-    """Runs the command with the arguments of this process. Texts that are not UTF-8 are printed with escapes."""
-    sys.stdout = io.TextIOWrapper(sys.stdout.buffer, encoding="utf-8", errors="backslashreplace")
+    """Runs the command with the arguments of this process."""
     return run(sys.argv[1:])
 
 
 def run(words: Sequence[str]) -> int:
-    """Runs the command, and returns its exit status."""
+    """Runs the command, and returns its exit status. If the output cannot be written, it has a status of its own."""
+    try:
+        outputs.open_output()
+        status = answered(words)
+        sys.stdout.flush()
+        return status
+    except NoOutput as fault:
+        outputs.drop_output()
+        outputs.tell(f"judge: {fault}")
+        return monitoring.UNKNOWN if "--nagios" in words else NO_OUTPUT
+
+
+def answered(words: Sequence[str]) -> int:
+    """Prints the answer, or why there is none, and returns the exit status."""
     options = None
     try:
         options = options_of(words)
-        status = judge(options)
-        sys.stdout.flush()
-        return status
-    except Fault as fault:
-        return ended(fault, words, options)
+        return judge(options)
     except SystemExit:
-        sys.stdout.flush()
+        # The help or the version was printed.
         return SOUND
-    except BrokenPipeError:
-        # Nothing more can be written, and Python would report that again when it exits.
-        os.dup2(os.open(os.devnull, os.O_WRONLY), sys.stdout.fileno())
-        print("judge: the output was closed", file=sys.stderr)
-        return NO_OUTPUT
+    except NoOutput:
+        raise
+    except Exception as fault:
+        return ended(fault_of(fault), words, options)
+
+
+def fault_of(fault: Exception) -> Fault:
+    """Returns why there is no judgement. For a failure that no rule foresees, its place in the code is printed."""
+    match fault:
+        case Fault():
+            return fault
+        case MemoryError():
+            return Fault(NO_PROGRAM, "out of memory")
+        case ImportError():
+            return Fault(NO_PROGRAM, f"a module of judge cannot be loaded: {fault}")
+        case OSError():
+            return Fault(NO_PROGRAM, f"judge cannot continue: {fault}")
+    outputs.tell("".join(traceback.format_exception(fault)).rstrip("\n"))
+    return Fault(NO_PROGRAM, "judge itself fails, at the place that is printed on standard error")
 
 
 def ended(fault: Fault, words: Sequence[str], options: Options | None) -> int:
@@ -84,7 +108,7 @@ def ended(fault: Fault, words: Sequence[str], options: Options | None) -> int:
         print(fault.words)
     else:
         sys.stdout.flush()
-        print(f"judge: {fault.words}", file=sys.stderr)
+        outputs.tell(f"judge: {fault.words}")
     return fault.status
 
 

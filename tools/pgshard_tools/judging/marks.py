@@ -4,7 +4,7 @@ terminals can open."""
 import sys
 from collections.abc import Sequence
 
-from pgshard_tools.judging import report, verdicts
+from pgshard_tools.judging import outputs, report, verdicts
 from pgshard_tools.judging.kinds import KINDS
 from pgshard_tools.judging.program import Unreadable
 from pgshard_tools.judging.verdicts import Verdict
@@ -36,5 +36,5 @@ def source_of(path: str, catalog: str) -> Source:
 
 def mark(line: str) -> None:
     """Prints a line, but only if standard error is a terminal. The judgement itself is on standard output."""
-    if sys.stderr.isatty():
-        print(line.encode("utf-8", "replace").decode(), file=sys.stderr)
+    if sys.stderr is not None and sys.stderr.isatty():
+        outputs.tell(line)

@@ -3,7 +3,7 @@
 import argparse
 from collections.abc import Sequence
 from dataclasses import dataclass
-from typing import NoReturn
+from typing import Any, NoReturn
 
 from pgshard_tools.installation import version
 from pgshard_tools.judging.faults import BAD_COMMAND, Fault
@@ -30,11 +30,12 @@ exit status:
   0   every published table is sound
   1   a table is not sound, not decided or refused; nothing is published; a subscription is disabled, or a slot is missing
       or not used; with --strict, a filter fails at a row
-  2   usage error, or the file cannot be read
-  3   no table has status 1, but one is not read; or the catalog in a file, or who subscribes, cannot be determined
+  2   usage error, or a file cannot be read or written
+  3   no table has status 1, but one is not read; or a schema, a catalog text or a file of --with is refused; or who
+      subscribes cannot be determined
   4   no server of version 15 to 18 answers psql
-  5   pgshard or pglast, PostgreSQL's parser for Python, is missing or fails
-  6   the output is closed
+  5   pgshard or pglast, PostgreSQL's parser for Python, is missing or fails, memory is refused, or judge itself fails
+  6   the output is closed, or cannot be written
 
 with --detailed-status, instead of 1, the first of these that applies:
   1   a table is not sound
@@ -85,6 +86,10 @@ class Parser(argparse.ArgumentParser):
 
     def error(self, message: str) -> NoReturn:
         raise Fault(BAD_COMMAND, f"{message}; --help lists the options")
+
+    def _print_message(self, message: str, file: Any = None) -> None:
+        """Prints the help or the version. Unlike argparse's own method, it ignores no failure."""
+        print(message, end="", file=file)
 
 
 def parser() -> Parser:
