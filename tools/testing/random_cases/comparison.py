@@ -11,6 +11,7 @@ from collections.abc import Iterator
 from dataclasses import dataclass, field
 
 import processes
+import read_back
 from tally import Tally, show
 
 from .case import Case
@@ -40,6 +41,8 @@ class Result:
     lines: int = 0
     refused: int = 0
     late: int = 0
+    # Whether the catalog of its input was shown, and then its text.
+    shown: bool = False
     inputs: list[tuple[tuple[str, ...], bytes]] = field(default_factory=list)
 
 
@@ -66,12 +69,21 @@ class Watched:
         return answer
 
 
+    def show(self, text: bytes) -> tuple[int | None, str]:
+        """Makes a run of `show`."""
+        answer = self.run(("show",), text)
+        return answer.status, answer.output
+
+
 def result_of(seed: int, library: str | None, number: int) -> Result:
     """Runs a case."""
     case = case_of(seed, number)
     watched = Watched(library, isinstance(case, Case) and case.output == "input\n")
     faults = [*case.check(watched.run)]
+    fault = read_back.fault_of(watched.show, read_back.first_part(case.text)) if case.words[0] != "show" else None
     found = Result(number, watched.gave_up, case.met, len(watched.runs), case.lines(), watched.refused, watched.late)
+    found.shown = fault == ""
+    faults += [fault] if fault else []
     if not watched.refused:
         found.faults += faults
     if found.faults:
@@ -108,7 +120,8 @@ def check_seed(tally: Tally, seed: int) -> None:
         tell(tally, seed, result)
         met += result.met
         refused = min(result.refused, 1)
-        total += Counter(cases=1, runs=result.runs, lines=result.lines, refused=refused, late=result.late)
+        total += Counter(
+            cases=1, runs=result.runs, lines=result.lines, refused=refused, late=result.late, shown=result.shown)
         if total["late"] > MOST_LATE:
             break
     tally.check("runs of random cases that do not end", total["late"], 0)
@@ -116,6 +129,7 @@ def check_seed(tally: Tally, seed: int) -> None:
     tally.check("whether the system refused too much to random cases", total["refused"] > MOST_REFUSED, False)
     print(
         f"random cases of seed {seed}: {total['cases']:,}, in {total['runs']:,} runs with {total['lines']:,} lines; "
+        f"of {total['shown']:,} the catalog was shown, and its text shown again; "
         f"{total['refused']} were not compared, since the system refused memory, a read or a write")
 
 

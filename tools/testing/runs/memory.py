@@ -78,6 +78,7 @@ class Kept:
     blocks: int = 0
     bytes: int = 0
     words: tuple[str, ...] = ()
+    catalog: str = CATALOG
 
     def check(self, tally: Tally) -> None:
         """Makes both runs, if there is a C compiler."""
@@ -94,7 +95,7 @@ class Kept:
     def size(self, tally: Tally, library: str, script: Script) -> tuple[int, int]:
         """Returns the memory after these steps, in blocks and in bytes."""
         script = self.before + script + PAUSED
-        text = three_parts(CATALOG, C + C, "".join(script.steps))
+        text = three_parts(self.catalog, C + C, "".join(script.steps))
         # The input is a file, since the buffer of an input that comes in pieces depends on the pieces.
         with tempfile.TemporaryFile() as file:
             file.write(text.encode())
