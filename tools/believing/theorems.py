@@ -240,7 +240,7 @@ CLOSED = Theorem("closed", [
 PROGRAM = Theorem("program", [
     clauses("cli", "program.rt", "run"),
     clauses("cli", "program.rt", "run_serving"),
-], most=6750, tokens={
+], most=6800, tokens={
     "IsClosed": Ensured(
         "what `close` of `senders` ensures, which is read in part 5",
         (clauses("senders", "closing.rt", "close", "ok"),)),

@@ -10,7 +10,7 @@ CRATES = pathlib.Path(__file__).resolve().parent.parent.parent / "crates"
 FOLDERS = ("must-fail", "wrong")
 # How many edits the gate may try, and in how many crates: each edit costs a check, and the first one of a crate a
 # proof.
-MOST_EDITS, MOST_CRATES = 62, 9
+MOST_EDITS, MOST_CRATES = 62, 10
 
 
 def fault_of(crate: pathlib.Path, edit: pathlib.Path) -> str | None:
