@@ -148,7 +148,6 @@ FIGURES: dict[str, dict[str, str]] = {
     "the greatest --limit": {
         REQUESTS: r"MAX_LIMIT: u32 = (\w+)",
         TREE: r"log takes: 1 to (\w+)",
-        "crates/cli/src/requests.rt": r"MAX_LIMIT: u32 = (\w+)",
         OUTPUT: r"may contain, 1 to ([\w,]+)",
         "crates/cli/README.md": r"a limit of 1 to ([\w,]+)",
     },
