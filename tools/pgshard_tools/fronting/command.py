@@ -18,6 +18,7 @@ from pgshard_tools.fronting.server import Front
 from pgshard_tools.fronting.session import Backend
 from pgshard_tools.fronting.slots import Slots
 from pgshard_tools.installation import version
+from pgshard_tools.judging import outputs
 
 DESCRIPTION = """\
 Turns `pgshard serve` into a server for PostgreSQL's clients, such as subscribers and pg_recvlogical.
@@ -34,11 +35,12 @@ it receives SIGTERM, SIGINT or SIGHUP.
 Exit status:
     0   it was ended by a signal
     2   usage error, or a file cannot be read
-    4   the port is not available"""
+    4   the port is not available, or the output cannot be written
+    5   out of memory, or a module of the front is missing"""
 
 VERSIONS = ["15.18", "13.18"]
 
-ENDED, BAD_COMMAND, NO_PORT = 0, 2, 4
+ENDED, BAD_COMMAND, NO_PORT, NO_MEMORY = 0, 2, 4, 5
 
 # The signals that end it.
 ENDINGS = (signal.SIGTERM, signal.SIGINT, signal.SIGHUP)
@@ -140,9 +142,13 @@ def catalog(path: str) -> Catalog:
     except (OSError, UnicodeDecodeError) as fault:
         raise argparse.ArgumentTypeError(f"cannot read {path}: {fault}") from fault
     try:
-        return Catalog(f"\n{text}".split("\n%%\n")[0])
+        found = Catalog(f"\n{text}".split("\n%%\n")[0])
     except (LookupError, ValueError) as fault:
         raise argparse.ArgumentTypeError(f"{path} is not a catalog that pgshard reads") from fault
+    if not found.subscriptions:
+        raise argparse.ArgumentTypeError(
+            f"{path} has no CREATE SUBSCRIPTION, so it is not the catalog of pgshard serve")
+    return found
 
 
 def main() -> int:
@@ -152,7 +158,31 @@ def main() -> int:
 
 def run(words: Sequence[str]) -> int:
     """Runs the command, and returns its exit status."""
-    options = options_of(words)
+    try:
+        if sys.stdout is not None:
+            outputs.open_output()
+        return served(asked(words))
+    except outputs.NoOutput as fault:
+        outputs.drop_output()
+        outputs.tell(f"front: {fault}")
+        return NO_PORT
+    except MemoryError:
+        outputs.tell("front: out of memory")
+        return NO_MEMORY
+
+
+def asked(words: Sequence[str]) -> argparse.Namespace:
+    """The options on a command line. Before an exit, the help or the version is written."""
+    try:
+        return options_of(words)
+    except SystemExit:
+        if sys.stdout is not None:
+            sys.stdout.flush()
+        raise
+
+
+def served(options: argparse.Namespace) -> int:
+    """Serves clients, and returns the exit status."""
     logging.basicConfig(stream=sys.stderr, level=logging.INFO, format="%(asctime)s front: %(message)s")
     logging.getLogger("asyncio").setLevel(logging.CRITICAL)
     # If nobody reads the log any more, the front continues.
@@ -160,7 +190,7 @@ def run(words: Sequence[str]) -> int:
     try:
         return asyncio.run(serve(options))
     except OSError as fault:
-        print(f"front: cannot listen on port {options.port} of {options.listen}: {fault.strerror}", file=sys.stderr)
+        outputs.tell(f"front: cannot listen on port {options.port} of {options.listen}: {fault.strerror}")
         return NO_PORT
 
 

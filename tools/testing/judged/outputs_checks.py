@@ -1,23 +1,17 @@
 """Tests judge's exit status if its output or its memory is refused: status 1 would say that a table is not sound."""
 
 import os
-import pathlib
-import resource
-import stat
 import subprocess
 import sys
-import tempfile
 from collections.abc import Callable, Sequence
 
 from programs import PGSHARD, TOOLS
+from refusing_places import full_device, status_within
 from server import Server, environment
 from tally import Tally
 
 CATALOG = TOOLS.parent / "examples" / "shop.sql"
 SETUP = "CREATE TABLE t (id integer PRIMARY KEY); CREATE PUBLICATION p FOR TABLE t;"
-# The number of /dev/full, of which the tests make a node of their own.
-FULL = os.makedev(1, 7)
-
 # Options for a file that is sound, and for a database that is sound.
 OF_FILE = [(), ("--json",), ("--nagios",), ("--all",), ("--help",), ("--version",), ("--json", "--none")]
 OF_DATABASE = [(), ("--json",), ("--repair", "t"), ("--catalog", "t"), ("--databases",), ("--watch", "1")]
@@ -34,8 +28,9 @@ def check_outputs(tally: Tally, server: Server) -> None:
     runs += [[*server.words("written"), *words] for words in OF_DATABASE]
     for words in runs:
         check_closed(tally, words)
-    with tempfile.TemporaryDirectory() as folder:
-        check_full(tally, runs, pathlib.Path(folder) / "full")
+    with full_device() as full:
+        if full is not None:
+            check_full(tally, runs, full)
     check_memory(tally)
 
 
@@ -49,14 +44,8 @@ def check_closed(tally: Tally, words: Sequence[str]) -> None:
     tally.check(f"an output that was closed: {words}", ran(words, None, lambda: os.close(1)), expected)
 
 
-def check_full(tally: Tally, runs: Sequence[Sequence[str]], path: pathlib.Path) -> None:
+def check_full(tally: Tally, runs: Sequence[Sequence[str]], full: int) -> None:
     """Tests a device that is full, as an output and as standard error."""
-    try:
-        os.mknod(path, stat.S_IFCHR | 0o666, FULL)
-        full = os.open(path, os.O_WRONLY)
-    except PermissionError:
-        print("skipped: a device that is full, since this user may not make one")
-        return
     line = "judge: the output cannot be written: No space left on device\n"
     for words in runs:
         status = UNKNOWN if "--nagios" in words else NO_OUTPUT
@@ -64,7 +53,6 @@ def check_full(tally: Tally, runs: Sequence[Sequence[str]], path: pathlib.Path) 
     answer = subprocess.run(
         [TOOLS / "judge", CATALOG, "--none"], stdout=subprocess.PIPE, stderr=full, env=environment())
     tally.check("standard error that is full", (answer.returncode, answer.stdout), (2, b""))
-    os.close(full)
 
 
 def ran(words: Sequence[str], output: int | None, first: Callable[[], None] | None = None) -> tuple[int, str]:
@@ -77,20 +65,11 @@ def ran(words: Sequence[str], output: int | None, first: Callable[[], None] | No
 
 def check_memory(tally: Tally) -> None:
     """Checks that judge answers or says that memory is refused, at each limit at which Python starts."""
-    found = set()
+    found, variables = set(), environment() | {"PGSHARD": PGSHARD}
     for limit in LIMITS:
         for word, refused in ("--all", NO_MEMORY), ("--nagios", UNKNOWN):
-            command = [sys.executable, "-c", ""], [sys.executable, TOOLS / "judge", CATALOG, word]
-            starts, status = (limited(it, limit) for it in command)
-            if starts == 0:
+            if status_within(limit, [sys.executable, "-c", ""], variables) == 0:
+                status = status_within(limit, [sys.executable, TOOLS / "judge", CATALOG, word], variables)
                 found.add(status)
                 tally.check(f"{word} with {limit} kB", status if status not in (0, refused) else None, None)
     tally.check("both were seen", found, {0, NO_MEMORY, UNKNOWN})
-
-
-def limited(command: Sequence[str | pathlib.Path], limit: int) -> int:
-    """Returns the status of a command that may have so much memory."""
-    answer = subprocess.run(
-        command, stdout=subprocess.DEVNULL, stderr=subprocess.DEVNULL, env=environment() | {"PGSHARD": PGSHARD},
-        preexec_fn=lambda: resource.setrlimit(resource.RLIMIT_AS, (limit * 1024, limit * 1024)))
-    return answer.returncode

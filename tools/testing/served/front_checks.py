@@ -3,15 +3,17 @@
 import socket
 import struct
 import subprocess
+import sys
 import tempfile
 
 from programs import TOOLS
+from refusing_places import full_device, status_within
 from server import environment
 from tally import Tally
 
 from . import messages
 from .clients import Connection, client
-from .program import SECONDS, Started, free_port, fronting, nobody, serving
+from .program import NO_PORT, SECONDS, Started, free_port, fronting, nobody, serving
 from .publisher import Insert
 from .shardings import halves
 
@@ -138,13 +140,15 @@ DONE = b"".join([
     messages.frame(b"Z", b"I")])
 STARTUP = struct.pack("!I", 0x30000) + b"user\0postgres\0database\0shop\0replication\0database\0\0"
 
-# Command-line arguments, and the status. PORT and TAKEN are ports.
+# Command-line arguments, and the status. PORT and TAKEN are ports, and FEED is a file that is no catalog.
+FEED = TOOLS.parent / "examples" / "feed.txt"
 COMMAND_LINES = [
     ((), 2),
     (("--port", "PORT", "--backend", "0"), 2),
     (("--port", "1", "--backend", "65536"), 2),
     (("--port", "PORT", "--backend", "1", "--server-version", "14.9"), 2),
     (("--port", "PORT", "--backend", "1", "--catalog", "/nowhere"), 2),
+    (("--port", "PORT", "--backend", "1", "--catalog", "FEED"), 2),
     (("--port", "PORT", "--backend", "1", "--password-file", "/nowhere"), 2),
     (("--port", "PORT", "--backend", "1", "--password-file", "/dev/null"), 2),
     (("--port", "PORT", "--backend", "1", "--certificate", "/nowhere"), 2),
@@ -158,6 +162,10 @@ COMMAND_LINES = [
     (("--version",), 0),
 ]
 
+NO_MEMORY = 5
+# Limits of memory in kB. With the greatest, the front starts.
+LIMITS = (*range(8_000, 36_000, 4_000), 60_000)
+
 
 def check_front(tally: Tally) -> None:
     """Tests what needs psql, and what needs single bytes."""
@@ -165,6 +173,7 @@ def check_front(tally: Tally) -> None:
         file.write(CATALOG)
         file.flush()
         check_command_lines(tally)
+        check_refused(tally)
         with nobody() as backend, fronting(backend, "--catalog", file.name) as (front, port):
             check_catalog(tally, port)
             check_packets(tally, port)
@@ -300,12 +309,26 @@ def check_frames(tally: Tally, made: Connection, publisher: Connection, start: b
 
 def check_command_lines(tally: Tally) -> None:
     with socket.create_server(("127.0.0.1", 0)) as taken:
-        ports = {"PORT": str(free_port()), "TAKEN": str(taken.getsockname()[1])}
+        named = {"PORT": str(free_port()), "TAKEN": str(taken.getsockname()[1]), "FEED": str(FEED)}
         for words, status in COMMAND_LINES:
-            given = [ports.get(word, word) for word in words]
+            given = [named.get(word, word) for word in words]
             answer = subprocess.run([TOOLS / "front", *given], capture_output=True, timeout=SECONDS)
             tally.check(f"front {' '.join(words)}", answer.returncode, status)
             tally.check(f"front {' '.join(words)}: a traceback", b"Traceback" in answer.stderr, False)
+
+
+def check_refused(tally: Tally) -> None:
+    """Tests an output that is full, and limits of memory at which Python starts."""
+    with full_device() as full:
+        for words in (("--help",), ("--port", "0", "--backend", "1")) if full is not None else ():
+            answer = subprocess.run(
+                [TOOLS / "front", *words], stdout=full, stderr=subprocess.PIPE, encoding="utf-8", timeout=SECONDS)
+            tally.check(f"an output that is full: {words}", (answer.returncode, answer.stderr), (
+                NO_PORT, "front: the output cannot be written: No space left on device\n"))
+    found = {
+        status_within(limit, [sys.executable, TOOLS / "front", "--version"], environment()) for limit in LIMITS
+        if status_within(limit, [sys.executable, "-c", ""], environment()) == 0}
+    tally.check("the statuses if memory is refused", found, {0, NO_MEMORY})
 
 
 def packet(body: bytes) -> bytes:
