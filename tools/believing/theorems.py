@@ -111,7 +111,10 @@ GRAMMAR = "the grammar, which need not be read, since the text of the catalog is
 CERTIFICATES = "the certificates, which need not be read, since the catalog is sound"
 REFUSAL = "why a sharding is refused or an input is not read; then the status is not `Done`"
 
-SHOWN = Theorem("shown", [clauses("commands", "check.rt", "check_input", "ends")], most=650, tokens={
+SHOWN = Theorem("shown", [
+    clauses("commands", "check.rt", "check_input", "ends"),
+    clauses("catalog_laws", "laws.rt", "texts_tell_catalogs"),
+], most=650, tokens={
     "catalog_by": GRAMMAR,
     "as_filter": GRAMMAR,
     "lines_of": CERTIFICATES,
