@@ -4,7 +4,8 @@
 #   make install PREFIX=/usr/local
 #   make install PREFIX=/usr DESTDIR=/tmp/stage
 #
-# `make uninstall` removes what it installed. Nothing is built here: the program is in release/, or PROGRAM names another.
+# `make uninstall` removes what it installed. Nothing is built here: the program is in release/, or PROGRAM names
+# another.
 
 PREFIX = /usr/local
 DESTDIR =

@@ -12,8 +12,8 @@ CRATES = ROOT / "crates"
 
 # What a source file can name without an import.
 BUILT_IN = {
-    "Option", "Some", "None", "Result", "Ok", "Err", "Vec", "Box", "String", "Self", "Drop", "Clone", "Copy", "Fn", "FnMut",
-    "FnOnce", "Sync", "Send", "Sized", "AsRef", "Iterator"}
+    "Option", "Some", "None", "Result", "Ok", "Err", "Vec", "Box", "String", "Self", "Drop", "Clone", "Copy", "Fn",
+    "FnMut", "FnOnce", "Sync", "Send", "Sized", "AsRef", "Iterator"}
 
 
 @dataclass(frozen=True)

@@ -188,7 +188,8 @@ HEADLINE = Theorem("headline", [
     "world_checked": Ensured(
         "the catalog of a `World`, which is the one that `new` was given", (in_world("new", "checked"),)),
     "IsServedAlike": "that the book of a `World` has its catalog, so that `step` takes commits by the book's sets",
-    "AreLinkedTo": "that the connections of a `World` have its catalog, so that `step` takes commits by the book's sets",
+    "AreLinkedTo": "that the connections of a `World` have its catalog, so that `step` takes commits by the book's "
+                   "sets",
     "book_checked": BOOKS["book_checked"],
     "machine_now": "how the definition keeps a subscriber's rows; what is shown is defined without it",
     "Machine": "how the definition keeps a subscriber's rows; what is shown is defined without it",

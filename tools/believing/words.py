@@ -14,7 +14,8 @@ TYPED = re.compile(r"\(([\w' ]+) : [^)]*\)")
 
 # Words that are not names of definitions.
 LANGUAGE = {
-    ":", "=", "→", "←", "×", "⊥", "¬", "∥", "∥₁", "_", '""', "Type", "Unit", "tt", "record", "let", "in", "ghost", "if", "then", "else"}
+    ":", "=", "→", "←", "×", "⊥", "¬", "∥", "∥₁", "_", '""', "Type", "Unit", "tt", "record", "let", "in", "ghost",
+    "if", "then", "else"}
 
 # Names that are constructors and not variables, although they are in lower case.
 CONSTRUCTORS = {"true", "false", "zero", "suc", "record"}

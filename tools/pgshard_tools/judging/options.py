@@ -28,8 +28,8 @@ publication counts as a subscriber. The environment variable PGSHARD names a pro
 STATUSES = """\
 exit status:
   0   every published table is sound
-  1   a table is not sound, not decided or refused; nothing is published; a subscription is disabled, or a slot is missing
-      or not used; with --strict, a filter fails at a row
+  1   a table is not sound, not decided or refused; nothing is published; a subscription is disabled, or a slot is
+      missing or not used; with --strict, a filter fails at a row
   2   usage error, or a file cannot be read or written
   3   no table has status 1, but one is not read; or a schema, a catalog text or a file of --with is refused; or who
       subscribes cannot be determined

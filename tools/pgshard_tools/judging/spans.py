@@ -8,8 +8,9 @@ from pgshard_tools.judging.formulas import Formula, both, negation
 from pgshard_tools.judging.operands import Operand, Value
 from pgshard_tools.judging.points import LEAST
 
-ELEMENTS = {"int4range": "int4", "int8range": "int8", "numrange": "numeric", "daterange": "date", "tsrange": "timestamp",
-            "tstzrange": "timestamptz"}
+ELEMENTS = {
+    "int4range": "int4", "int8range": "int8", "numrange": "numeric", "daterange": "date", "tsrange": "timestamp",
+    "tstzrange": "timestamptz"}
 END = r'(?:"((?:[^"\\]|\\.|"")*)"|([^",()\[\]]*))'
 RANGE = re.compile(rf"([\[(]){END},{END}([\])])")
 

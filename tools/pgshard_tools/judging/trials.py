@@ -7,7 +7,14 @@ from typing import Any
 
 from pgshard_tools.judging import catalogs, facts, formulas, laws, samples
 from pgshard_tools.judging.arithmetic import Failure
-from pgshard_tools.judging.constraints import BOUNDS_OF_ALL, bounds_of, constraint_texts, is_of_server, leaf_checks, leaf_columns
+from pgshard_tools.judging.constraints import (
+    BOUNDS_OF_ALL,
+    bounds_of,
+    constraint_texts,
+    is_of_server,
+    leaf_checks,
+    leaf_columns,
+)
 from pgshard_tools.judging.database import Column, Database, Table, full_name
 from pgshard_tools.judging.faults import Unread
 from pgshard_tools.judging.formulas import Subject

@@ -8,8 +8,8 @@ import re
 
 # A keyword or a name, which is folded to lower case; a quoted name; a text; or another character.
 TOKEN = re.compile(
-    r"""\s*(?:(?P<word>[A-Za-z_\x80-\U0010ffff][\w$\x80-\U0010ffff]*)|"(?P<quoted>(?:[^"]|"")+)"|'(?P<text>(?:[^']|'')*)'
-    |(?P<other>[0-9A-F]+/[0-9A-F]+|[^\s]))""", re.X)
+    r"""\s*(?:(?P<word>[A-Za-z_\x80-\U0010ffff][\w$\x80-\U0010ffff]*)|"(?P<quoted>(?:[^"]|"")+)"
+    |'(?P<text>(?:[^']|'')*)'|(?P<other>[0-9A-F]+/[0-9A-F]+|[^\s]))""", re.X)
 # One of the names in a list, as the server's SplitIdentifierString reads it.
 NAME = re.compile(r'\s*(?:"(?P<quoted>(?:[^"]|"")*)"|(?P<plain>[^\s,"]+))\s*(?P<end>,|\Z)')
 OPTION = "publication_names"
