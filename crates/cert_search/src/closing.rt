@@ -158,7 +158,7 @@ impl SearchState {
         alloc: Global,
         problem: &Problem<'_>,
     ) -> Result<Option<usize>, AllocError> {
-        self.add_steps(problem.condition_count());
+        self.charge_steps(problem.condition_count());
         let mut found = vec![in alloc; NEVER; problem.conditions.len()]?;
         self.votes.fill(0);
         let mut first = None;
@@ -193,7 +193,7 @@ impl SearchState {
         problem: &Problem<'_>,
         share: ShareFormula,
     ) -> Result<Option<usize>, AllocError> {
-        self.add_steps(problem.condition_count());
+        self.charge_steps(problem.condition_count());
         let mut found = vec![in alloc; NEVER; problem.conditions.len()]?;
         let deciders = self.deciders(problem, share, Outcome::Met, &mut found);
         if deciders.alone != 0 {

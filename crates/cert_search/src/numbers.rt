@@ -37,7 +37,7 @@ pub fn value_of(problem: &Problem<'_>, plain: &PlainAtom, number: i64) -> Tri {
 
 /// Whether what is known leaves the term the number that it has if its column has this number.
 fn term_meets(state: &mut SearchState, domain: &Domain, number: i64) -> bool {
-    state.add_steps(1);
+    state.charge_steps(1);
     match cell_with(&domain.cells, term_number(domain, number)) {
         None => false,
         Some(cell) => state.facts.leaves(domain, cell.holding),
@@ -46,7 +46,7 @@ fn term_meets(state: &mut SearchState, domain: &Domain, number: i64) -> bool {
 
 /// Whether what is known leaves the column this number.
 pub fn meets(problem: &Problem<'_>, state: &mut SearchState, column: usize, number: i64) -> bool {
-    state.add_steps(problem.term_count());
+    state.charge_steps(problem.term_count());
     for domain in &problem.terms {
         if domain.column == column && !term_meets(state, domain, number) {
             return false;
@@ -227,7 +227,7 @@ fn number_in_cells(
     let last = state.steps.saturating_add(MAX_STEPS_IN_CELLS);
     let mut found = None;
     for cell in domain.cells.iter().rev() {
-        state.add_steps(1);
+        state.charge_steps(1);
         if state.steps < last
             && state.facts.leaves(domain, cell.holding)
             && may_be_nearer(found, *cell)

@@ -157,7 +157,7 @@ impl SearchState {
         for (atom, _) in problem.atoms.iter().enumerate() {
             let left = mask_at(&self.likely, atom);
             if self.votes.get(atom).copied().unwrap_or(0) > 0 && !is_settled(left) {
-                self.add_steps(breadth.saturating_mul(3));
+                self.charge_steps(breadth.saturating_mul(3));
                 let score = self.score(problem, pending, atom, left, best);
                 if score < best {
                     best = score;

@@ -92,7 +92,7 @@ impl<'a, 'q> Search<'a, 'q> {
         if self.state.steps > self.most_steps {
             return Err(Stop::TooLong);
         }
-        self.state.add_steps(NODE_STEPS);
+        self.state.charge_steps(NODE_STEPS);
         self.state.refresh(self.problem);
         let splits = MAX_SPLITS.saturating_sub(may_split);
         self.state.follow(self.problem, splits);
@@ -204,7 +204,7 @@ impl<'a, 'q> Search<'a, 'q> {
 
     /// Looks for a row here that no share takes, or that several take.
     fn fault(&mut self) -> Result<usize, Stop> {
-        self.state.add_steps(self.problem.breadth);
+        self.state.charge_steps(self.problem.breadth);
         if let Some(chosen) = choices(self.alloc, self.problem, &mut self.state)? {
             self.counter = counter_of(self.alloc, self.problem, self.table, self.shares, &chosen)?;
             if self.counter.is_some() {

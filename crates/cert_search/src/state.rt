@@ -83,7 +83,7 @@ impl SearchState {
 
     /// Finds the facts of a column, and which values they allow for each of its atoms.
     fn infer(&mut self, problem: &Problem<'_>, column: usize) {
-        self.add_steps(problem.breadth_of(column));
+        self.charge_steps(problem.breadth_of(column));
         self.facts.find(problem, &self.known, column);
         for atom in problem.atoms_of(column) {
             if let Some(plain) = problem.atom(*atom) {
@@ -113,8 +113,8 @@ impl SearchState {
         }
     }
 
-    /// Counts this number of additional steps.
-    pub fn add_steps(&mut self, steps: u64) {
+    /// Takes this many steps from what the search may take.
+    pub fn charge_steps(&mut self, steps: u64) {
         self.steps = self.steps.saturating_add(steps);
     }
 
@@ -140,7 +140,7 @@ impl SearchState {
     }
 
     fn follow_share(&mut self, problem: &Problem<'_>, share: ShareFormula) {
-        self.add_steps(share.size().saturating_mul(2));
+        self.charge_steps(share.size().saturating_mul(2));
         evaluate(&problem.conditions, share, &self.known, &mut self.told);
         put(&mut self.live, share.root(), true);
         mark_live(&problem.conditions, share, &self.told, &mut self.live);
@@ -159,7 +159,7 @@ impl SearchState {
 
     /// Finds what the facts say about each condition of the share.
     fn expect(&mut self, problem: &Problem<'_>, share: ShareFormula) {
-        self.add_steps(share.size());
+        self.charge_steps(share.size());
         for place in share.start..share.end {
             if let Some(condition) = problem.conditions.get(place) {
                 let outcome = self.expected_at(*condition, place);

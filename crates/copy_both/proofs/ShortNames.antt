@@ -14,7 +14,7 @@ use Rattle.copy_both.specs.declared.token.Token.{Token}
 use Rattle.copy_both.specs.declared.token.Token.TheVariants.{Word, QuotedName, Value, Position, Open, Close, Comma, Semicolon}
 use Rattle.copy_both.specs.CommandText.{named_option, option_in, ends, listed_until, no_options, options_in, command_with, has_keywords, command_in, command_with_tokens, command_of}
 use Rattle.copy_both.specs.CommandTokens.{as_name, name_in, token_position, is_comma, is_close, all_of, lone_name, names_in, tokens_of}
-use Rattle.copy_both.specs.OptionValues.{version, without_zeros, is_off, publications, publications_in, names_or_wrong, is_left_out, off, given, option_value}
+use Rattle.copy_both.specs.OptionValues.{version, without_zeros, is_off, publications, publications_in, names_or_wrong, is_only_off, off, given, option_value}
 use Rattle.copy_both.specs.Refusals.{RefusalOf, ExpectedQuery, Unreadable, NoSlot, WrongOption, UnsupportedOption, MissingOption, NoPublication, OtherPublications, Ahead, InUse, CanBeSent}
 use Rattle.copy_both.specs.ShortNames.{IsShort, AreShort, HasShortValue, IsShortOption, AreShortOptions, IsShortCommand}
 use Rattle.copy_both.specs.StartOrder.{OfferOf, or_else, refused, is_wrong, is_named, is_unsupported, has_publications, option_refusal, options_refusal, missing_refusal, names_of, names_in as names_given, unknown_refusal, same_publications, is_in_use, slot_refusal}
@@ -89,7 +89,7 @@ given_value name text =
     chosen (bytes_eq name (codes "proto_version")) (version text) _ HasShortValue (version_value text)
     (chosen (bytes_eq name (codes "publication_names")) (publications text) _ HasShortValue
     (publications_value (tokens_of text))
-    (chosen (is_left_out name) (off text) Wrong HasShortValue (off_value text) tt))
+    (chosen (is_only_off name) (off text) Wrong HasShortValue (off_value text) tt))
 
 value_is_short : (name : List ℕ) (text : Option (List ℕ)) → HasShortValue (option_value name text)
 value_is_short name None = tt

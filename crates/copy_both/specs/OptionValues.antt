@@ -31,9 +31,9 @@ publications_in (Some tokens) = names_or_wrong (names_in tokens)
 abbrev pub publications : List ℕ → OptionValue
 publications text = publications_in (tokens_of text)
 
--- what is not supported
-abbrev pub is_left_out : List ℕ → Bool
-is_left_out name =
+-- options that may only be off, since they are not supported
+abbrev pub is_only_off : List ℕ → Bool
+is_only_off name =
     bytes_eq name (codes "binary") || bytes_eq name (codes "messages") || bytes_eq name (codes "streaming")
     || bytes_eq name (codes "two_phase")
 
@@ -47,7 +47,7 @@ abbrev pub given : List ℕ → List ℕ → OptionValue
 given name text =
     if bytes_eq name (codes "proto_version") then version text
     else (if bytes_eq name (codes "publication_names") then publications text
-    else (if is_left_out name then off text else Wrong))
+    else (if is_only_off name then off text else Wrong))
 
 -- the value of the option with this name, which may be missing
 abbrev pub option_value : List ℕ → Option (List ℕ) → OptionValue

@@ -61,8 +61,8 @@ fn publications(alloc: Global, text: &str) -> Result<OptionValue, AllocError>
     }
 }
 
-fn is_left_out(name: &str) -> bool
-    ensures { result ≡ spec.is_left_out name.now }
+fn is_only_off(name: &str) -> bool
+    ensures { result ≡ spec.is_only_off name.now }
 {
     name == "binary" || name == "messages" || name == "streaming" || name == "two_phase"
 }
@@ -84,7 +84,7 @@ fn given(alloc: Global, name: &str, text: &str) -> Result<OptionValue, AllocErro
         Ok(version(text))
     } else if name == "publication_names" {
         publications(alloc, text)
-    } else if is_left_out(name) {
+    } else if is_only_off(name) {
         Ok(off(text))
     } else {
         Ok(OptionValue::Wrong)
