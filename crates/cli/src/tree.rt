@@ -44,20 +44,20 @@ Exit status:
   5  out of memory";
 
 const PUBLISH_HELP: &str =
-    "The program reads standard input: a catalog, a line %%, the certificates of its tables, one on each line, a line %%, and
-then commands, one on each line. If the sharding is sound, it listens on 127.0.0.1, prints listening PORT, and answers
-each line when it has arrived:
+    "The program reads standard input: a catalog, a line %%, the certificates of its tables, one on each line, a
+line %%, and then commands, one on each line. If the sharding is sound, it listens on 127.0.0.1, prints listening PORT,
+and answers each line when it has arrived:
   COMMIT [COMMAND, ..];  makes one transaction, and prints commit N, or refused and why
-  VIEW;                  prints the number of commits, the publisher's rows, and for each subscription the positions up to
-                         which it was sent and has confirmed the log, and whether it is connected
+  VIEW;                  prints the number of commits, the publisher's rows, and for each subscription the positions up
+                         to which it was sent and has confirmed the log, and whether it is connected
   QUIT;                  ends the input
-A line that cannot be read prints script PLACE KIND, and changes nothing. With --commands, the lines come from clients of
-that port, one client after another, and the answer to a line goes to its client; the program also prints commands PORT,
-and runs until a client sends QUIT;.
+A line that cannot be read prints script PLACE KIND, and changes nothing. With --commands, the lines come from clients
+of that port, one client after another, and the answer to a line goes to its client; the program also prints commands
+PORT, and runs until a client sends QUIT;.
 Clients are served as by serve, and may connect any number of times. When the input has ended, the clients get what is
 left, and have ten seconds to confirm it. Then the program compares what it answered and sent with the log, and prints
-closed COMMITS CONNECTIONS. Standard error has a line for each connection that has ended; with --log json, an object when
-a connection is accepted, and one when it has ended.
+closed COMMITS CONNECTIONS. Standard error has a line for each connection that has ended; with --log json, an object
+when a connection is accepted, and one when it has ended.
 
 Exit status:
   0  the input and all connections have ended, and the line closed is printed

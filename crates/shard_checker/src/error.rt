@@ -39,7 +39,7 @@ pub enum CheckError {
     },
     /// A subscription names the publication, whose filter for the table names a column of it that is outside the
     /// replica identity.
-    #[error("a filter of publication {publication} names column {column} of table {table}, which is not in the replica identity")]
+    #[error("publication {publication} filters table {table} by column {column}, which is not in the replica identity")]
     NotCovered {
         publication: usize,
         table: TableNumber,
