@@ -3,11 +3,13 @@ judge."""
 
 import os
 import pathlib
+import signal
 import subprocess
 import sys
 import tempfile
 
 from programs import PGSHARD, TOOLS
+from refusing_places import full_device, status_within
 from script_checks import installed
 from tally import Tally
 
@@ -27,6 +29,8 @@ CREATE SUBSCRIPTION s CONNECTION '' PUBLICATION p;
 CREATE SUBSCRIPTION u CONNECTION '' PUBLICATION "q 2";
 """
 LINES = CATALOG.count("\n")
+# Limits of memory in kB. With the greatest, there are explanations.
+LIMITS = range(8_000, 36_000, 4_000)
 UNSUBSCRIBED = CATALOG[:CATALOG.index("CREATE SUBSCRIPTION")]
 
 # Arguments, input, status, output, and the expected messages.
@@ -95,7 +99,11 @@ TOLD = [
     # Outputs that give no position.
     (["make"], CATALOG, 0, "o 0\n", []),
     (["make"], CATALOG, 4, "", ["pgshard: cannot write the output"]),
-    (["serve", "--port", "1"], CATALOG, 4, "", ["pgshard: cannot write the output, or the port is not available"]),
+    (["serve", "--port", "1"], CATALOG, 4, "", ["pgshard: the port is not available"]),
+    (["serve", "--port", "1"], CATALOG, 4, "listening 1\n",
+     ["pgshard: cannot write the output, or the listening socket failed"]),
+    (["publish", "--port", "1"], CATALOG, 4, "", []),
+    (["publish", "--port", "1"], CATALOG, 4, "listening 1\n", ["pgshard: cannot write the output"]),
     (["make"], CATALOG, 5, "o 0\nout of memory\n", ["pgshard: out of memory"]),
     (["nothing"], "", 2, "command line\nwhy\n", []),
 ]
@@ -137,9 +145,11 @@ def check_pointing(tally: Tally) -> None:
     with tempfile.TemporaryDirectory() as folder:
         path = pathlib.Path(folder)
         check_explain(tally, path)
+        check_signals(tally, path)
         check_script(tally, path / "repository")
         check_judge_marks(tally, path)
     check_program(tally)
+    check_refused(tally)
 
 
 def check_explain(tally: Tally, folder: pathlib.Path) -> None:
@@ -167,6 +177,18 @@ def check_explain(tally: Tally, folder: pathlib.Path) -> None:
         2, "", "explain: there is no program ./missing\n"))
 
 
+def check_signals(tally: Tally, folder: pathlib.Path) -> None:
+    """Checks that the program gets a signal that asks explain to end, and that the status is that of its end."""
+    program = written(folder / "sleeping", "#!/bin/sh\necho $$\nexec sleep 1000\n")
+    for ending in signal.SIGTERM, signal.SIGHUP:
+        with subprocess.Popen([TOOLS / "explain", program], stdin=subprocess.PIPE, stdout=subprocess.PIPE) as running:
+            assert running.stdout is not None
+            process = int(running.stdout.readline())
+            running.send_signal(ending)
+            tally.check(f"{ending.name} to explain", running.wait(120), 128 + ending)
+            tally.check(f"the program after {ending.name}", pathlib.Path(f"/proc/{process}").exists(), False)
+
+
 def explain(program: pathlib.Path | str, *words: str, WRITES: str, ENDS: str, **given) -> tuple[int, str, str]:
     """Runs tools/explain. Returns its status, output and messages."""
     environment = os.environ | {"WRITES": WRITES, "ENDS": ENDS}
@@ -188,12 +210,54 @@ def check_script(tally: Tally, root: pathlib.Path) -> None:
             by_pipes([root / "pgshard", "make"], b"%%\n", environment))
         told = sentence if is_terminal else ""
         tally.check(f"the script, {'at a terminal' if is_terminal else 'by pipes'}", found, (3, "input\n", told))
-    files = [root / "catalog", root / "certificates"]
+    files, says_of_second = [root / "catalog", root / "certificates"], "certificate 2 BadToken\n"
     for words, given in ([files[0], files[1]], b""), ([files[0], "-"], b"o 0\no x\n"), ([files[0]], b""):
-        says = "catalog 0 Expected\n" if len(words) == 1 else "certificate 2 BadToken\n"
+        says = "catalog 0 Expected\n" if len(words) == 1 else says_of_second
         name = f"{files[0]}:1:1" if len(words) == 1 else f"{'input' if words[1] == '-' else words[1]}:2:3"
         _, _, told = at_terminal([root / "pgshard", "check", *words], given, environment | {"WRITES": says})
         tally.check(f"where a fault of {len(words)} files is", told.partition(": ")[0], name)
+    publish = [root / "pgshard", "publish", *files]
+    _, _, told = at_terminal(publish, b"VIEW;\n", environment | {"WRITES": says_of_second})
+    tally.check("where a fault of a file of publish is", told.partition(": ")[0], f"{files[1]}:2:3")
+    closed = ["sh", "-c", 'exec "$@" <&-', "sh", root / "pgshard", "make"]
+    status, output, told = at_terminal(closed, b"", environment)
+    tally.check("no standard input at a terminal", (status, output, "Traceback" in told), (3, "input\n", False))
+
+
+def check_refused(tally: Tally) -> None:
+    """Tests runs whose output cannot be written, that have a standard file closed, or that are refused memory: the
+    status is that of the program alone."""
+    alone, explained_run = [PGSHARD, "make"], [TOOLS / "explain", PGSHARD, "make"]
+    with full_device() as full:
+        for words in ("make",), ("check",), ("--help",) if full is not None else ():
+            answer = subprocess.run(
+                [TOOLS / "explain", PGSHARD, *words], input=CATALOG.encode(), stdout=full, stderr=subprocess.PIPE)
+            tally.check(f"an output of {words[0]} that is full", (answer.returncode, answer.stderr), (
+                4, b"pgshard: cannot write the output\n"))
+    for closed in 0, 1, 2:
+        found = [without(closed, command) for command in (explained_run, alone)]
+        tally.check(f"a run without file {closed}", found[0], found[1])
+    variables = dict(os.environ)
+    with tempfile.NamedTemporaryFile("w") as file:
+        file.write(CATALOG.replace("region < 5", "region < 6"))
+        file.flush()
+        for limit in LIMITS:
+            if status_within(limit, [sys.executable, "-c", ""], variables) == 0:
+                for given in "<", "cat":
+                    shell = f'"$@" < {file.name}' if given == "<" else f'cat {file.name} | "$@"'
+                    command = ["sh", "-c", shell, "sh", sys.executable, *explained_run]
+                    tally.check(f"{given} with {limit} kB", status_within(limit, command, variables), 1)
+
+
+def without(closed: int, command: list) -> tuple[int, bytes, bytes]:
+    """Returns the status, the output and standard error of a run in which a file is closed."""
+    with tempfile.NamedTemporaryFile("w") as file:
+        file.write(CATALOG)
+        file.flush()
+        with open(file.name, "rb") as given:
+            answer = subprocess.run(command, stdin=given, stdout=subprocess.PIPE, stderr=subprocess.PIPE,
+                                    preexec_fn=lambda: os.close(closed))
+    return answer.returncode, answer.stdout, answer.stderr
 
 
 def check_judge_marks(tally: Tally, folder: pathlib.Path) -> None:

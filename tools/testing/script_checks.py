@@ -2,13 +2,17 @@
 
 import os
 import re
+import resource
 import shutil
+import signal
 import subprocess
 import tempfile
+import time
 from dataclasses import dataclass
 from pathlib import Path
 
 from programs import PGSHARD, TOOLS
+from refusing_places import full_device
 from tally import Tally
 
 # Runs in place of the program: prints its name and arguments, and then its input.
@@ -89,6 +93,14 @@ REFUSED = [
     (("eval", "orders", "catalog", "."), ". is a folder"),
 ]
 
+# Runs in which the program takes the place of the script's process.
+PROCESSES = [
+    ("serve", "catalog"), ("serve", "catalog", "script"), ("publish", "whole"), ("publish", "catalog", "certificates"),
+    ("publish", "catalog", "certificates", "script"),
+]
+
+SECONDS = 120
+
 COMMAND = re.compile(r"^  ([a-z]+) +\S", re.M)
 
 
@@ -101,6 +113,7 @@ def check_script(tally: Tally) -> None:
         for name, text in FILES.items():
             (files / name).write_text(text)
         check_inputs(tally, copy / "pgshard", files)
+        check_no_room(tally, copy / "pgshard", files)
         (Path(folder) / "link").symlink_to("copy/pgshard")
         check_others(tally, Path(folder) / "link", files)
         check_help(tally, Path(folder) / "shown")
@@ -153,10 +166,62 @@ def check_process(tally: Tally, script: Path, files: Path) -> None:
     """Checks that the program runs in the script's own process, so that it gets the script's signals."""
     program = script.resolve().parent / "release" / "pgshard"
     program.write_text("#!/bin/sh\necho $$\n")
-    for words in ("serve", "catalog"), ("serve", "catalog", "script"):
-        with subprocess.Popen([script, *words], stdout=subprocess.PIPE, cwd=files) as running:
+    for words in PROCESSES:
+        with subprocess.Popen([script, *words], stdin=subprocess.DEVNULL, stdout=subprocess.PIPE, cwd=files) as running:
             assert running.stdout is not None
             tally.check(f"the process of {words}", running.stdout.read().decode(), f"{running.pid}\n")
+    program.write_text("#!/bin/sh\necho $$\nexec sleep 1000\n")
+    for words in PROCESSES:
+        for ending in signal.SIGTERM, signal.SIGHUP, signal.SIGINT:
+            check_signal(tally, script, files, words, ending)
+
+
+def check_signal(tally: Tally, script: Path, files: Path, words: tuple[str, ...], ending: signal.Signals) -> None:
+    """Checks that a signal ends the program, and with it whatever reads standard input for it."""
+    reader, writer = os.pipe()
+    with subprocess.Popen([script, *words], stdin=reader, stdout=subprocess.PIPE, cwd=files) as running:
+        os.close(reader)
+        assert running.stdout is not None
+        running.stdout.readline()
+        running.send_signal(ending)
+        tally.check(f"{ending.name} to {words}", running.wait(SECONDS), -ending)
+    tally.check(f"what reads after {ending.name} to {words}", has_reader(writer), False)
+    os.close(writer)
+
+
+def has_reader(pipe: int) -> bool:
+    """Returns whether a pipe still has a reader after some time."""
+    until = time.monotonic() + SECONDS
+    while time.monotonic() < until:
+        try:
+            os.write(pipe, b"\n")
+        except BrokenPipeError:
+            return False
+        time.sleep(0.02)
+    return True
+
+
+def check_no_room(tally: Tally, script: Path, files: Path) -> None:
+    """Tests files that can be read, but not copied: the files are not at fault."""
+    def limit() -> None:
+        signal.signal(signal.SIGXFSZ, signal.SIG_IGN)
+        resource.setrlimit(resource.RLIMIT_FSIZE, (8, 8))
+
+    for words in ("check", "whole", "certificates"), ("check", "certificates", "-"), ("publish", "whole"):
+        answer = subprocess.run(
+            [script, *words], input=b"0123456789", capture_output=True, cwd=files, preexec_fn=limit,
+            env=os.environ | {"TMPDIR": str(files)})
+        told = "".join(answer.stderr.decode().splitlines()[-1:])
+        begin = f"pgshard: cannot copy {'-' if '-' in words else 'whole'} to {files}/"
+        tally.check(f"no room for {words}", (answer.returncode, answer.stdout, told[:len(begin)]), (70, b"", begin))
+    for words in ("check", "catalog", "certificates"), ("publish", "catalog"):
+        answer = subprocess.run(
+            [script, *words], stdin=subprocess.DEVNULL, capture_output=True, cwd=files,
+            env=os.environ | {"TMPDIR": str(files / "none")})
+        told = answer.stderr.decode().splitlines()[-1:]
+        tally.check(f"no folder for {words}", (answer.returncode, answer.stdout, told), (
+            70, b"", ["pgshard: cannot make a folder for the input"]))
+    tally.check("files that are left without room", {path.name for path in files.iterdir()} - set(FILES), set())
 
 
 def check_help(tally: Tally, root: Path) -> None:
@@ -169,6 +234,10 @@ def check_help(tally: Tally, root: Path) -> None:
         status, shown, _ = ran(script, *words, folder=root)
         found = COMMAND.findall(shown.partition("Options:")[0])
         tally.check(f"the commands of {words[0]}", (status, found), (0, [*listed, "judge", "front", "help"]))
+    with full_device() as full:
+        for words in (("--help",), ("make", "--help"), ("help", "serve")) if full is not None else ():
+            answer = subprocess.run([script, *words], stdout=full, stderr=subprocess.DEVNULL)
+            tally.check(f"{' '.join(words)} to a full device", answer.returncode, 4)
     takes_value = set(re.findall(r"nono(--[a-z-]+)", text)) - {"--help"}
     for name in [*listed, *({"serve"} - set(listed))]:
         status, shown, _ = ran(script, "help", name, folder=root)

@@ -28,8 +28,7 @@ def explained(words: list[str], source: Source, status: int, output: str) -> lis
     if status == 3:
         return [of_input(subcommand, source, last)]
     if status == 4:
-        where = ", or the port is not available" if subcommand == "serve" else ""
-        return [f"pgshard: cannot write the output{where}"]
+        return of_failure(words, lines)
     if status == 5:
         return ["pgshard: out of memory"]
     if status != 1:
@@ -39,6 +38,15 @@ def explained(words: list[str], source: Source, status: int, output: str) -> lis
     if subcommand == "make":
         return of_tables(source, output)
     return of_refusal(source, last)
+
+
+def of_failure(words: list[str], lines: list[str]) -> list[str]:
+    """Returns the sentence about an output that cannot be written, or a port that is not available. Before serve and
+    publish write their first line, only the port can be at fault, and publish says that itself."""
+    is_serve = words[:1] == ["serve"]
+    if not lines and (is_serve or words[:1] == ["publish"]):
+        return ["pgshard: the port is not available"] if is_serve else []
+    return [f"pgshard: cannot write the output{', or the listening socket failed' if is_serve else ''}"]
 
 
 def of_input(subcommand: str, source: Source, line: str) -> str:
