@@ -9,9 +9,12 @@ use clap::{Arg, ArgAction, Command};
 use std::alloc::{AllocError, Global};
 
 const INPUT_HELP: &str =
-    "The program reads standard input, whose parts are separated by lines that are exactly %%:
-eval reads a catalog and rows, show and make a catalog alone, check a catalog and certificates,
-simulate and serve a catalog, certificates and a script, publish a catalog, certificates and commands.
+    "The program reads standard input. Its parts come in this order, separated by lines that are exactly %%:
+  make, show       a catalog
+  check            a catalog, certificates
+  eval             a catalog, rows
+  simulate, serve  a catalog, certificates, a script
+  publish          a catalog, certificates, commands
 A catalog is SQL: CREATE SCHEMA, TABLE, UNIQUE INDEX, PUBLICATION and SUBSCRIPTION, and ALTER TABLE .. REPLICA IDENTITY.
 
 Exit status:
