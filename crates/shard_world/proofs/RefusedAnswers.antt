@@ -1,5 +1,5 @@
 -- What the calls on a connection return is not a fault.
-use Rattle.std.proofs.Common.{◌≡◌, ℕ, true, false, List, take, refl, sym, ap, subst, ◌∙◌}
+use Rattle.std.proofs.Common.{◌≡◌, ◌≢◌, ℕ, true, false, List, take, refl, sym, ap, subst, ◌∙◌}
 use Rattle.std.specs.Prelude.{Option, Some, None, Result, slice_get}
 use Rattle.filter_tree.specs.Memory.{TellsFault}
 use Rattle.tables_log.specs.BookView.{book_slots}
@@ -23,8 +23,8 @@ use Rattle.test_subscriber.specs.declared.phase.Phase.{Phase}
 use Rattle.test_subscriber.specs.declared.phase.Phase.TheVariants.{Shut, Waiting, Idle, Busy}
 use Rattle.test_subscriber.specs.declared.subscriber.Subscriber.{Subscriber}
 use Rattle.test_subscriber.proofs.FeedingLemmas.{IsOpen, cut_open}
-use Rattle.shard_world.specs.Joined.{IsLinked, SendsStream}
-use Rattle.shard_world.specs.PeerSteps.{Case, peer_of, source_of}
+use Rattle.shard_world.specs.Joined.{IsLinked, PeerOf, SendsStream}
+use Rattle.shard_world.specs.PeerSteps.{Case, MatchesPeer, peer_of, source_of}
 use Rattle.shard_world.specs.Refusals.{IsAnswered, HearsAreAnswered, KeepsAreAnswered, OpensAreAnswered, ReportsAreAnswered, TakesAreAnswered}
 use Rattle.shard_world.specs.World as w
 use Rattle.shard_world.specs.World.{Connection, stream_state, spelled_up, down_of, log_in}
@@ -106,6 +106,12 @@ reports_are_answered case slots old link stands some =
     let here = is_open case slots old link stands some in
     status_answered (sub_machine old.subscriber).phase
     (linked_open case slots link old.subscriber here.c here.linked)
+
+pub not_shut : (case : Case) (slots : List Slot) (old : PeerOf) (link : Link) → MatchesPeer case slots old
+    → old.link ≡ Some link → (sub_machine old.subscriber).phase ≢ Shut
+not_shut case slots old link stands some shut =
+    let here = is_open case slots old link stands some in
+    subst IsOpen shut (linked_open case slots link old.subscriber here.c here.linked)
 
 -- ---- hear
 

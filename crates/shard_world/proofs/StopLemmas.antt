@@ -1,7 +1,7 @@
 -- If memory is refused to a call on a subscriber and its connection, the connection is lost as in the world.
-use Rattle.std.proofs.Common.{◌≡◌, ℕ, Bool, List, refl, sym, ap, subst, ◌∙◌}
+use Rattle.std.proofs.Common.{◌≡◌, ◌≢◌, ℕ, Bool, true, List, refl, sym, ap, subst, ◌∙◌}
 use Rattle.std.proofs.Common.{inl, inr}
-use Rattle.std.specs.Prelude.{Option, Some, None, Err, slice_get}
+use Rattle.std.specs.Prelude.{Option, Some, None, Err, is_some, slice_get}
 use Rattle.filter_tree.specs.Memory.{TellsFault}
 use Rattle.shard_checker.specs.CheckedView.{CheckedOf}
 use Rattle.tables_log.specs.BookView.{book_log, book_slots}
@@ -14,8 +14,9 @@ use Rattle.copy_both.specs.Voices.{IsStarted, keep_answer, reported_fault}
 use Rattle.copy_both.specs.declared.link.Link.{Link}
 use Rattle.copy_both.specs.declared.link_fault.LinkFault.{LinkFault}
 use Rattle.copy_both.specs.declared.link_fault.LinkFault.TheVariants as fault
-use Rattle.test_subscriber.specs.Subscribers.{FeedStops, Loses, sub_output}
+use Rattle.test_subscriber.specs.Subscribers.{FeedStops, Loses, sub_machine, sub_output}
 use Rattle.test_subscriber.specs.declared.fault.SubFault.{SubFault}
+use Rattle.test_subscriber.specs.declared.phase.Phase.TheVariants.{Shut}
 use Rattle.test_subscriber.specs.declared.subscriber.Subscriber.{Subscriber}
 use Rattle.shard_world.specs.Connections.{front_of}
 use Rattle.shard_world.specs.Joined.{PeerOf, PeerIs, IsAt}
@@ -27,7 +28,7 @@ use Rattle.shard_world.specs.World.{Answer, Connection, PeerEvent, Open, Hear, T
 use Rattle.shard_world.proofs.CallLemmas.{kept_own}
 use Rattle.shard_world.proofs.JoinedSteps.{still_named}
 use Rattle.shard_world.proofs.NeedsLemmas.{open_needs, hear_needs, take_needs, keep_needs, deliver_needs, report_needs}
-use Rattle.shard_world.proofs.RefusedAnswers.{keeps_are_answered, only_memory, takes_are_answered}
+use Rattle.shard_world.proofs.RefusedAnswers.{keeps_are_answered, not_shut, only_memory, takes_are_answered}
 use Rattle.shard_world.proofs.RefusedFeeding.{deliver_halts}
 use Rattle.shard_world.proofs.RefusedHearing.{hear_halts}
 use Rattle.shard_world.proofs.RefusedSteps.{open_stays, open_breaks, take_halts, keep_halts, report_halts, loss_breaks, stays_lost}
@@ -93,14 +94,26 @@ keep_stops checked now book old link new want error some closes told memory case
 }
 
 pub report_stops : (checked : CheckedOf) (now : ℕ) (book : Book) (old : PeerOf) (link : Link) (after : Subscriber)
-    (want : Bool) → old.link ≡ Some link → Loses old.subscriber after
+    (want : Bool) → old.link ≡ Some link
+    → ((sub_machine old.subscriber).phase ≢ Shut → Loses old.subscriber after)
     → StopsFromEach checked now (Report want) book book old (record { link = old.link; subscriber = after })
 report_stops checked now book old link after want some loses case stands = record {
   needed = report_needs case (book_slots book) old link want stands.peer some;
   stopped = subst (IsStopped case (Report want) book book (record { link = old.link; subscriber = after })) (sym some)
       (halts_so case (Report want) book (record { link = old.link; subscriber = after })
-      (report_halts case (book_slots book) old link after want stands.peer some loses));
+      (report_halts case (book_slots book) old link after want stands.peer some
+      (loses (not_shut case (book_slots book) old link stands.peer some))));
 }
+
+pub report_stops_so : (checked : CheckedOf) (now : ℕ) (book : Book) (old : PeerOf) (after : Subscriber) (want : Bool)
+    → is_some old.link ≡ true → ((sub_machine old.subscriber).phase ≢ Shut → Loses old.subscriber after)
+    → StopsFromEach checked now (Report want) book book old (record { link = old.link; subscriber = after })
+report_stops_so checked now book old after want there loses = by_link old.link refl there
+  where
+    by_link : (link : Option Link) → old.link ≡ link → is_some link ≡ true
+        → StopsFromEach checked now (Report want) book book old (record { link = old.link; subscriber = after })
+    by_link None is none = absurd cc
+    by_link (Some link) is some = report_stops checked now book old link after want is loses
 
 pub hear_stops : (checked : CheckedOf) (now : ℕ) (before after : Book) (old : PeerOf) (link new : Link) (count : ℕ)
     (error : LinkFault) (piece : List ℕ) → old.link ≡ Some link

@@ -36,7 +36,7 @@ pub struct Subscriber {
 }
 
 impl Subscriber {
-    ghost use Rattle.std.specs.Prelude.{◌≡◌, [], IfErr, IfOk, OnOk, OnErr, Err, Ok, map};
+    ghost use Rattle.std.specs.Prelude.{◌≡◌, ◌≢◌, [], IfErr, IfOk, OnOk, OnErr, Err, Ok, map};
     ghost use Rattle.std.specs.String.{string_bytes};
     ghost use Rattle.tables_log.specs.Listing.{ListsFound};
     ghost use Rattle.tables_log.specs.Places.{IsInOrder};
@@ -45,7 +45,7 @@ impl Subscriber {
     ghost use Rattle.test_subscriber.specs.StartQuery.{start_query};
     ghost use Rattle.test_subscriber.specs.Subscribers as spec;
     ghost use Rattle.test_subscriber.specs.Subscribers.{sub_machine, sub_held, sub_output, sub_slot, sub_publications, sub_listed};
-    ghost use Rattle.test_subscriber.specs.declared.fault.SubFault.TheVariants.{Closed};
+    ghost use Rattle.test_subscriber.specs.declared.fault.SubFault.TheVariants.{Closed, OutOfMemory};
     ghost use Rattle.test_subscriber.specs.declared.phase.Phase.TheVariants.{Shut};
 
     /// A subscriber of a slot and these publications, without rows, at the position 0 and without a connection.
@@ -127,13 +127,18 @@ impl Subscriber {
     ///
     /// # Errors
     ///
-    /// `Closed` if there is no connection; `OutOfMemory`. Each leaves what `lose` leaves.
+    /// `Closed` if there is no connection, after which nothing has changed; `OutOfMemory`, which leaves what `lose`
+    /// leaves.
     pub fn status(&mut self, now: u64, want: bool) -> Result<(), SubFault>
         ensures ok { OnOk result (spec.Reports self.old now want self.new) }
         ensures fault { IfErr result (RefusedBy (spec.status_answer (sub_machine self.old).phase)) }
         ensures closed { (sub_machine self.old).phase ≡ Shut → result ≡ Err Closed }
-        ensures lost { OnErr result (spec.Loses self.old self.new) }
+        ensures unchanged { (sub_machine self.old).phase ≡ Shut → self.new ≡ self.old }
+        ensures lost { (sub_machine self.old).phase ≢ Shut → OnErr result (spec.Loses self.old self.new) }
     {
+        if self.replica.phase == Phase::Shut {
+            return Err(SubFault::Closed);
+        }
         let said = self.say(now, want);
         if said.is_err() {
             self.lose();
@@ -141,16 +146,13 @@ impl Subscriber {
         said
     }
 
+    /// Sends a status on the connection. The only error is out of memory.
     fn say(&mut self, now: u64, want: bool) -> Result<(), SubFault>
         ensures ok { OnOk result (spec.Reports self.old now want self.new) }
-        ensures fault { IfErr result (RefusedBy (spec.status_answer (sub_machine self.old).phase)) }
-        ensures closed { (sub_machine self.old).phase ≡ Shut → result ≡ Err Closed }
+        ensures fault { IfErr result (λ error. error ≡ OutOfMemory) }
         ensures machine { OnErr result (sub_machine self.new ≡ sub_machine self.old) }
         ensures names { OnErr result (spec.SameNames self.old self.new) }
     {
-        if self.replica.phase == Phase::Shut {
-            return Err(SubFault::Closed);
-        }
         let position = self.replica.position;
         let status = Status {
             written: position,
