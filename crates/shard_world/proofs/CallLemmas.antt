@@ -1,10 +1,11 @@
 -- What calls on a subscriber and its connection do in each world.
-use Rattle.std.proofs.Common.{◌≡◌, ◌≢◌, ℕ, ◌≤◌, Bool, true, false, List, length, take, refl, sym, ap, subst, ◌∙◌}
-use Rattle.std.specs.Prelude.{IfOk, Option, Some, None, Result, Ok, Err, is_some}
-use Rattle.std.proofs.lemmas.List.{take_all, take_min}
+use Rattle.std.proofs.Common.{◌≡◌, ◌≢◌, ℕ, ◌+◌, ◌≤◌, Bool, true, false, List, drop, length, take, refl, sym, ap, subst, ◌∙◌, arith}
+use Rattle.std.specs.Prelude.{IfOk, Option, Some, None, Result, Ok, Err, fold, is_some}
+use Rattle.std.proofs.lemmas.List.{drop_all, take_all, take_min}
 use Rattle.shard_checker.specs.CheckedView.{CheckedOf}
 use Rattle.tables_log.specs.BookView.{book_slots}
 use Rattle.tables_log.specs.declared.book.Book.{Book}
+use Rattle.tables_log.specs.declared.slots.Slot.{Slot}
 use Rattle.copy_both.specs.Ears.{HearLeaves, ear_phase, hear_answer}
 use Rattle.copy_both.specs.Links.{HearSays, IsNewLink, LinkLoses, LinkPasses, LinkSays, link_checked, link_ear, link_heard, link_output, link_sent, link_stage, next_answer, next_bytes, next_stage}
 use Rattle.copy_both.specs.Voices.{keep_answer, kept_bytes}
@@ -17,14 +18,15 @@ use Rattle.test_subscriber.specs.declared.subscriber.Subscriber.{Subscriber}
 use Rattle.shard_world.specs.Connections.{HearsOn, LosesOn, answer_of, front_of, kept_or_not}
 use Rattle.shard_world.specs.Joined.{PeerOf, PeerIs}
 use Rattle.shard_world.specs.PeerCalls.{MakesFrom, MakesFromEach, LosesLink, LosesIfThere, Drops}
-use Rattle.shard_world.specs.PeerSteps.{Case, ChangesOwn, StepsPeerTo, peer_of, source_of}
+use Rattle.shard_world.specs.PeerSteps.{Case, ChangesOwn, MatchesPeer, StepsPeerTo, peer_of, source_of}
 use Rattle.shard_world.specs.World as w
-use Rattle.shard_world.specs.World.{Answer, PeerEvent, Connection, Open, Hear, Take, Keep, Deliver, Report, Lose}
+use Rattle.shard_world.specs.World.{Answer, PeerEvent, Connection, StreamSource, Up, Open, Hear, Take, Keep, Deliver, Report, Lose, hear_up, ups_of, whole_up}
 use Rattle.shard_world.proofs.CaseLemmas.{is_shut, is_open}
 use Rattle.shard_world.proofs.JoinedPieces.{hears_step}
 use Rattle.shard_world.proofs.JoinedFeeding.{delivers_on}
 use Rattle.shard_world.proofs.JoinedLoss.{loses_on}
 use Rattle.shard_world.proofs.JoinedSteps.{steps_to, opens, takes, keeps, reports}
+use Rattle.shard_world.proofs.NeedsLemmas.{delivered_long, heard_long}
 
 -- ---- what stays
 
@@ -127,6 +129,78 @@ hears_piece checked now before after old link new subscriber count heard piece s
     (w.Heard (length p))) (sym is)
     (λ its. hears_some checked now before after old link new subscriber count heard some (sym its)) answer leaves says
     passes
+
+-- ---- nothing is heard or delivered
+
+plus_zero : (n : ℕ) → n + 0 ≡ n
+plus_zero n = omega arith
+
+module _ (source : StreamSource) (now : ℕ) (peer : w.Peer) (c : Connection) where
+  abbrev whole : ℕ → List Up
+  whole count = whole_up source.checked source.number count (ups_of peer c)
+
+  -- what is left when these are new, and this number of bytes was heard
+  abbrev hearing : List Up → ℕ → w.Peer
+  hearing new heard =
+      let session = fold (hear_up now) (record { confirmed = peer.confirmed; start = c.start; moves = c.moves }) new in
+      record peer {
+        confirmed = session.confirmed;
+        connection =
+            Some (record c { start = session.start; moves = session.moves; heard = heard });
+      }
+
+  hears_nothing : peer.connection ≡ Some c → w.hears source now peer c 0 ≡ peer
+  hears_nothing some =
+      ap (λ heard. hearing (drop (length (whole c.heard)) (whole heard)) heard) (plus_zero c.heard)
+      ∙ ap (λ new. hearing new c.heard) (drop_all (length (whole c.heard)) (whole c.heard) (omega arith))
+      ∙ ap (λ connection. record peer { connection = connection }) (sym some)
+
+delivers_nothing : (peer : w.Peer) (c : Connection) → peer.connection ≡ Some c → w.delivers peer c 0 ≡ peer
+delivers_nothing peer c some =
+    ap (λ delivered. w.with_connection peer (record c { delivered = delivered })) (plus_zero c.delivered)
+    ∙ ap (λ connection. record peer { connection = connection }) (sym some)
+
+-- what exists matches what is left
+matches_still : (case : Case) (slots : List Slot) (old : PeerOf) (link : Link) (left : w.Peer)
+    → MatchesPeer case slots old → old.link ≡ Some link → left ≡ peer_of case
+    → PeerIs (source_of case) slots (record { link = Some link; subscriber = old.subscriber }) left
+matches_still case slots old link left stands some same =
+    subst (PeerIs (source_of case) slots (record { link = Some link; subscriber = old.subscriber })) (sym same)
+    (subst (λ its. PeerIs (source_of case) slots (record { link = its; subscriber = old.subscriber }) (peer_of case))
+    some stands)
+
+pub hears_none : (checked : CheckedOf) (now : ℕ) (book : Book) (old : PeerOf) (link : Link) (count : ℕ)
+    (piece : List ℕ) → old.link ≡ Some link → piece ≡ front_of count (sub_output old.subscriber) → length piece ≡ 0
+    → MakesFromEach checked now (Hear count) book book old (record { link = Some link; subscriber = old.subscriber })
+    (w.Heard 0)
+hears_none checked now book old link count piece some is none case stands =
+    let here = is_open case (book_slots book) old link stands.peer some in
+    let more = w.as_many count (length (w.up_bytes (source_of case) (peer_of case) here.c)) here.c.heard in
+    let zero : 0 ≡ more = sym none ∙ ap length is
+    ∙ heard_long case (book_slots book) old link count stands.peer some in
+    let code : PeerOf = record { link = Some link; subscriber = old.subscriber } in
+    let left = w.hears (source_of case) case.now (peer_of case) here.c more in
+    made_by case (Hear count) (w.Heard 0) book code
+    (steps_to case (Hear count) (w.Heard 0) (book_slots book) code (Some here.c) here.some (ap w.Heard zero)
+    (matches_still case (book_slots book) old link left stands.peer some
+    (ap (w.hears (source_of case) case.now (peer_of case) here.c) (sym zero)
+    ∙ hears_nothing (source_of case) case.now (peer_of case) here.c here.some)))
+
+pub delivers_none : (checked : CheckedOf) (now : ℕ) (book : Book) (old : PeerOf) (link : Link) (count : ℕ)
+    (piece : List ℕ) → old.link ≡ Some link → piece ≡ front_of count (link_output link) → length piece ≡ 0
+    → MakesFromEach checked now (Deliver count) book book old (record { link = Some link; subscriber = old.subscriber })
+    (w.Delivered 0)
+delivers_none checked now book old link count piece some is none case stands =
+    let here = is_open case (book_slots book) old link stands.peer some in
+    let more = w.as_many count (length (w.down_of (source_of case) here.c)) here.c.delivered in
+    let zero : 0 ≡ more = sym none ∙ ap length is
+    ∙ delivered_long case (book_slots book) old link count stands.peer some in
+    let code : PeerOf = record { link = Some link; subscriber = old.subscriber } in
+    let left = w.delivers (peer_of case) here.c more in
+    made_by case (Deliver count) (w.Delivered 0) book code
+    (steps_to case (Deliver count) (w.Delivered 0) (book_slots book) code (Some here.c) here.some (ap w.Delivered zero)
+    (matches_still case (book_slots book) old link left stands.peer some
+    (ap (w.delivers (peer_of case) here.c) (sym zero) ∙ delivers_nothing (peer_of case) here.c here.some)))
 
 pub takes_one : (checked : CheckedOf) (now : ℕ) (book : Book) (old : PeerOf) (link new : Link) (found : Taken)
     → old.link ≡ Some link

@@ -1,18 +1,22 @@
 -- If memory is allocated, the step of the world has something to do.
-use Rattle.std.proofs.Common.{◌≡◌, ℕ, Bool, List, [], ◌∷◌, sym, subst}
+use Rattle.std.proofs.Common.{◌≡◌, ℕ, ◌<◌, min, Bool, List, [], ◌∷◌, length, sym, ap, subst, ◌∙◌, arith, length-drop}
 use Rattle.std.specs.Prelude.{Option, Some, None, IsSome, slice_get}
+use Rattle.std.proofs.lemmas.List.{length-take-le}
 use Rattle.tables_log.specs.Commits.{CommitOf}
 use Rattle.tables_log.specs.declared.slots.Slot.{Slot}
 use Rattle.pgoutput_msgs.specs.Telling.{messages_for}
 use Rattle.pgoutput_msgs.specs.declared.message.Msg.{Msg}
-use Rattle.copy_both.specs.Links.{HasNext, link_stage}
+use Rattle.copy_both.specs.Links.{HasNext, link_output, link_stage}
 use Rattle.copy_both.specs.Streams.{StreamStateOf}
 use Rattle.copy_both.specs.Voices.{IsStarted}
 use Rattle.copy_both.specs.declared.link.Link.{Link}
+use Rattle.test_subscriber.specs.Subscribers.{sub_output}
+use Rattle.shard_world.specs.Connections.{front_of}
 use Rattle.shard_world.specs.Joined.{PeerOf, SendsStream}
 use Rattle.shard_world.specs.PeerSteps.{Case, MatchesPeer, peer_of, stepped, source_of}
-use Rattle.shard_world.specs.World.{AsksMemory, Connection, PeerEvent, Open, Hear, Take, Keep, Deliver, Report, keep_step, peer_step, stream_state, take_step, take_commit, took, log_in}
+use Rattle.shard_world.specs.World.{AsksMemory, Connection, PeerEvent, Open, Hear, Take, Keep, Deliver, Report, keep_step, peer_step, stream_state, take_step, take_commit, took, log_in, as_many, down_of, up_bytes}
 use Rattle.shard_world.proofs.CaseLemmas.{is_open, is_shut}
+use Rattle.shard_world.proofs.JoinedFeeding.{output_by}
 
 -- by the connection of the subscriber, if it has one
 needs_by : (case : Case) (event : PeerEvent) (connection : Option Connection) → (peer_of case).connection ≡ connection
@@ -25,16 +29,42 @@ pub open_needs : (case : Case) (slots : List Slot) (old : PeerOf) → MatchesPee
     → AsksMemory (stepped case Open).0
 open_needs case slots old stands none = needs_by case Open None (is_shut case slots old stands none).none tt
 
+-- how many bytes are in a piece
+front_long : (count : ℕ) (bytes : List ℕ) → length (front_of count bytes) ≡ min count (length bytes)
+front_long count bytes = length-take-le (min count (length bytes)) bytes (omega arith)
+
 module _ (case : Case) (slots : List Slot) (old : PeerOf) (link : Link) where
+  pub heard_long : (count : ℕ) (stands : MatchesPeer case slots old) (some : old.link ≡ Some link)
+      → let c = (is_open case slots old link stands some).c in
+      length (front_of count (sub_output old.subscriber))
+      ≡ as_many count (length (up_bytes (source_of case) (peer_of case) c)) c.heard
+  heard_long count stands some =
+      let here = is_open case slots old link stands some in
+      front_long count (sub_output old.subscriber)
+      ∙ ap (λ bytes. min count (length bytes)) here.linked.sends
+      ∙ ap (min count) (length-drop here.c.heard (up_bytes (source_of case) (peer_of case) here.c))
+
+  pub delivered_long : (count : ℕ) (stands : MatchesPeer case slots old) (some : old.link ≡ Some link)
+      → let c = (is_open case slots old link stands some).c in
+      length (front_of count (link_output link)) ≡ as_many count (length (down_of (source_of case) c)) c.delivered
+  delivered_long count stands some =
+      let here = is_open case slots old link stands some in
+      front_long count (link_output link)
+      ∙ ap (λ bytes. min count (length bytes))
+      (output_by case link here.c.moves here.c.delivered here.c.start here.linked.speaks here.linked.delivered)
+      ∙ ap (min count) (length-drop here.c.delivered (down_of (source_of case) here.c))
+
   pub hear_needs : (count : ℕ) → MatchesPeer case slots old → old.link ≡ Some link
-      → AsksMemory (stepped case (Hear count)).0
-  hear_needs count stands some = let here = is_open case slots old link stands some in
-      needs_by case (Hear count) (Some here.c) here.some tt
+      → 0 < length (front_of count (sub_output old.subscriber)) → AsksMemory (stepped case (Hear count)).0
+  hear_needs count stands some more =
+      let here = is_open case slots old link stands some in
+      needs_by case (Hear count) (Some here.c) here.some (subst (λ n. 0 < n) (heard_long count stands some) more)
 
   pub deliver_needs : (count : ℕ) → MatchesPeer case slots old → old.link ≡ Some link
-      → AsksMemory (stepped case (Deliver count)).0
-  deliver_needs count stands some = let here = is_open case slots old link stands some in
-      needs_by case (Deliver count) (Some here.c) here.some tt
+      → 0 < length (front_of count (link_output link)) → AsksMemory (stepped case (Deliver count)).0
+  deliver_needs count stands some more =
+      let here = is_open case slots old link stands some in
+      needs_by case (Deliver count) (Some here.c) here.some (subst (λ n. 0 < n) (delivered_long count stands some) more)
 
   pub report_needs : (want : Bool) → MatchesPeer case slots old → old.link ≡ Some link
       → AsksMemory (stepped case (Report want)).0

@@ -1,5 +1,5 @@
 -- If memory is refused to a call on a subscriber and its connection, the connection is lost as in the world.
-use Rattle.std.proofs.Common.{◌≡◌, ◌≢◌, ℕ, Bool, true, List, refl, sym, ap, subst, ◌∙◌}
+use Rattle.std.proofs.Common.{◌≡◌, ◌≢◌, ℕ, ◌<◌, Bool, true, List, length, refl, sym, ap, subst, ◌∙◌}
 use Rattle.std.proofs.Common.{inl, inr}
 use Rattle.std.specs.Prelude.{Option, Some, None, Err, is_some, slice_get}
 use Rattle.filter_tree.specs.Memory.{TellsFault}
@@ -117,13 +117,14 @@ report_stops_so checked now book old after want there loses = by_link old.link r
 
 pub hear_stops : (checked : CheckedOf) (now : ℕ) (before after : Book) (old : PeerOf) (link new : Link) (count : ℕ)
     (error : LinkFault) (piece : List ℕ) → old.link ≡ Some link
-    → piece ≡ front_of count (sub_output old.subscriber)
+    → piece ≡ front_of count (sub_output old.subscriber) → 0 < length piece
     → TellsFault (reported_fault error) (hear_answer (link_ear link) before piece (link_sent link))
     → HearLeaves (ear_phase (link_ear link)) (link_ear link) (link_ear new) before after piece (link_sent link)
     (Err error)
     → StopsFromEach checked now (Hear count) before after old (record { link = Some new; subscriber = old.subscriber })
-hear_stops checked now before after old link new count error piece some is told leaves case stands = record {
-  needed = hear_needs case (book_slots before) old link count stands.peer some;
+hear_stops checked now before after old link new count error piece some is more told leaves case stands = record {
+  needed = hear_needs case (book_slots before) old link count stands.peer some
+      (subst (λ p. 0 < length p) is more);
   stopped = hear_halts case stands.is before after old link count stands.log stands.peer some new error
       (subst (λ p. TellsFault (reported_fault error) (hear_answer (link_ear link) before p (link_sent link))) is told)
       (subst (λ p. HearLeaves (ear_phase (link_ear link)) (link_ear link) (link_ear new) before after p
@@ -132,10 +133,11 @@ hear_stops checked now before after old link new count error piece some is told 
 
 pub deliver_stops : (checked : CheckedOf) (now : ℕ) (book : Book) (old : PeerOf) (link : Link) (after : Subscriber)
     (count : ℕ) (error : SubFault) (piece : List ℕ) → old.link ≡ Some link
-    → piece ≡ front_of count (link_output link) → FeedStops old.subscriber piece error after
+    → piece ≡ front_of count (link_output link) → 0 < length piece → FeedStops old.subscriber piece error after
     → StopsFromEach checked now (Deliver count) book book old (record { link = Some link; subscriber = after })
-deliver_stops checked now book old link after count error piece some is fed case stands = record {
-  needed = deliver_needs case (book_slots book) old link count stands.peer some;
+deliver_stops checked now book old link after count error piece some is more fed case stands = record {
+  needed = deliver_needs case (book_slots book) old link count stands.peer some
+      (subst (λ p. 0 < length p) is more);
   stopped = halts_so case (Deliver count) book (record { link = Some link; subscriber = after })
       (subst (λ its. Halts case (Deliver count) (book_slots book) (record { link = its; subscriber = after })) some
       (deliver_halts case stands.is (book_slots book) old link after count error stands.peer some

@@ -330,13 +330,15 @@ pub record MovesPeer (checked : CheckedOf) (world : World) (subscriber now : ℕ
   pub answer_is : answer ≡ (step_in checked world subscriber now event).0
   pub next_is : next ≡ with_peer world subscriber (step_in checked world subscriber now event).1
 
--- memory is allocated if the step has something to do, and so not instead of these answers
+-- memory is allocated if the step has something to do, and so not instead of these answers, nor if no bytes move
 abbrev pub AsksMemory : Answer → Type 0
 AsksMemory AlreadyOpen = ⊥
 AsksMemory NotOpen = ⊥
 AsksMemory NotStarted = ⊥
 AsksMemory Idle = ⊥
 AsksMemory Lost = ⊥
+AsksMemory (Heard bytes) = 0 < bytes
+AsksMemory (Delivered bytes) = 0 < bytes
 AsksMemory answer = Unit {0}
 
 pub record BreaksPeer (checked : CheckedOf) (world : World) (subscriber now : ℕ) (event : PeerEvent) (answer : Answer)

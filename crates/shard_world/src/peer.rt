@@ -90,6 +90,9 @@ impl Peer {
         };
         let piece = front(self.subscriber.output(), bytes);
         let count = piece.len();
+        if count == 0 {
+            return Ok(Answer::Heard(0));
+        }
         link.hear(piece, book, now)?;
         self.subscriber.passed(count);
         Ok(Answer::Heard(count))
@@ -135,6 +138,9 @@ impl Peer {
         };
         let piece = front(link.output(), bytes);
         let count = piece.len();
+        if count == 0 {
+            return Ok(Answer::Delivered(0));
+        }
         self.subscriber.feed(piece)?;
         link.passed(count);
         Ok(Answer::Delivered(count))

@@ -4,10 +4,23 @@ use Rattle.copy_both.proofs.RepliesLemmas.{on_err}
 use Rattle.shard_world.specs.Connections.{front_of}
 use Rattle.shard_world.specs.PeerCalls.{StopsFromEach}
 use Rattle.shard_world.specs.World.{Deliver}
-use Rattle.shard_world.proofs.CallLemmas.{delivers_piece}
+use Rattle.shard_world.proofs.CallLemmas.{delivers_none, delivers_piece}
 use Rattle.shard_world.proofs.LinkedLemmas.{keeps_link}
 use Rattle.shard_world.proofs.StopLemmas.{deliver_stops}
 use Rattle.shard_world.proofs.peer.Peer.deliver.Goals as goal
+
+pub returns-then-count-eq0 : goal.returns-then-count-eq0
+returns-then-count-eq0 c checked now book = record {
+  made =
+      delivers_none checked now book c.args.self.now c.in-Some.link c.args.bytes
+      c.front-piece.result.now c.in-Some.is (c.front-piece.ensures ∙ ap (front_of c.args.bytes) c.output.ensures)
+      c.if-count-eq0.true;
+  counted = omega arith;
+  stops = tt;
+  book = refl;
+  linked =
+      keeps_link checked c.args.self.now c.in-Some.link c.in-Some.link c.args.self.now.subscriber c.in-Some.is refl;
+}
 
 pub returns : goal.returns
 returns c checked now book = record {
@@ -33,7 +46,8 @@ returns-in_err-feed c checked now book = record {
       (record { link = Some c.in-Some.link; subscriber = c.feed.new.self }))
       (deliver_stops checked now book c.args.self.now c.in-Some.link c.feed.new.self c.args.bytes
       c.in_err-feed.field-0.0 c.front-piece.result.now c.in-Some.is
-      (c.front-piece.ensures ∙ ap (front_of c.args.bytes) c.output.ensures) c.in_err-feed.ensures.stops);
+      (c.front-piece.ensures ∙ ap (front_of c.args.bytes) c.output.ensures)
+      (omega (arith, c.if-count-eq0.false)) c.in_err-feed.ensures.stops);
   book = refl;
   linked = keeps_link checked c.args.self.now c.in-Some.link c.in-Some.link c.feed.new.self c.in-Some.is refl;
 }
