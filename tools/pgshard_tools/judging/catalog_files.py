@@ -9,6 +9,7 @@ from pgshard_tools.judging.catalog_tokens import Table, statements_of, stored, t
 from pgshard_tools.judging.faults import BAD_COMMAND, NO_PROGRAM, NOT_READ, NOT_SOUND, SOUND, Fault
 from pgshard_tools.judging.kinds import KINDS
 from pgshard_tools.judging.options import Options
+from pgshard_tools.judging.refusals import missing_words
 from pgshard_tools.judging.verdicts import Verdict
 
 
@@ -157,13 +158,13 @@ def refusal_of(line: str, names: Names) -> tuple[Table, str] | None:
     """Returns the table whose identity the check refuses, if any, and the message about it."""
     for table in names.tables:
         if line == f"refused NoIdentity {table.name}":
-            return table, "it has no replica identity that can be used, so the server refuses its updates and deletes"
+            return table, "the server refuses updates and deletes, since its replica identity is NOTHING"
         for publication in names.publications:
             for column in table.columns:
                 if line == f"refused NotCovered {publication} {table.name} {column}":
                     return table, (
-                        f"the filter of publication {publication} names column {column}, which is not in the table's "
-                        "replica identity, so the server refuses its updates and deletes"
+                        f"the server refuses updates and deletes, since the filter of publication {publication} names "
+                        f"column {column}, which is not in the replica identity"
                     )
     return None
 
@@ -171,4 +172,4 @@ def refusal_of(line: str, names: Names) -> tuple[Table, str] | None:
 def words_of_missing(line: str) -> str:
     """Returns the message that an operation is not published."""
     publication, operation = line.removeprefix("refused PublishMissing ").rsplit(" ", 1)
-    return f"publication {publication}, which has a subscriber, does not publish {operation}"
+    return missing_words([publication], [operation])

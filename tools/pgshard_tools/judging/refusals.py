@@ -3,8 +3,8 @@
 docs/JUDGING.md lists the rules, with the sections of PostgreSQL's documentation.
 """
 
-from collections.abc import Iterator
-from dataclasses import replace
+from collections.abc import Iterator, Sequence
+from dataclasses import dataclass
 
 from pgshard_tools.judging.database import OPERATIONS, Database, Publication, Table, full_name, names_of
 from pgshard_tools.judging.parser import columns_of
@@ -13,8 +13,40 @@ from pgshard_tools.judging.shares import Shares, broken_operations
 CHANGES = {"update", "delete"}
 # The operations that may be left out on purpose. INSERT may not, since it decides where a row goes.
 OMISSIBLE = ("update", "delete", "truncate")
+# Why a table has no replica identity that the server can use, by the identity's letter.
+WITHOUT_IDENTITY = {
+    "d": "it has no replica identity, such as a primary key that is not deferrable", "n": "its replica identity is NOTHING",
+    "i": "the index of its replica identity is missing or not valid"}
 # The value with which a publication says that it publishes stored generated columns.
 STORED = "s"
+
+
+# What of a publication does not fit a replica identity.
+FILTER, LIST, LIST_AND_FULL, GENERATED = "filter", "list", "list and full", "generated"
+Lacking = Iterator[tuple[str, list[str]]]
+
+
+@dataclass(frozen=True)
+class Gap:
+    """Why the server refuses changes of a table: what of a publication does not fit the replica identity, and in which
+    columns."""
+
+    changes: str
+    kind: str
+    columns: tuple[str, ...]
+
+    def words(self, names: Sequence[str]) -> str:
+        """Returns it in words, for publications with the same gap."""
+        s, verb_s = ("s", "") if names[1:] else ("", "s")
+        of = words_of_publications(names)
+        columns = f"column{'s' if self.columns[1:] else ''} {words_of(self.columns)}"
+        which = f"{columns}, which {'are' if self.columns[1:] else 'is'}"
+        return {
+            FILTER: f"the filter{s} of {of} name{verb_s} {which} not in the replica identity",
+            LIST: f"the column list{s} of {of} lack{verb_s} {which} in the replica identity",
+            LIST_AND_FULL: f"{of} {'have' if s else 'has'} a column list, and the replica identity is FULL",
+            GENERATED: f"{of} {'do' if s else 'does'} not publish {which} generated and in the replica identity",
+        }[self.kind]
 
 
 def refusals_of(database: Database, shares: Shares) -> list[str]:
@@ -24,54 +56,68 @@ def refusals_of(database: Database, shares: Shares) -> list[str]:
         *stream_refusals(database, shares), *root_refusals(database, shares)]))
 
 
-def allowing(database: Database, shares: Shares) -> str | None:
-    """Returns the intention, as written in a file of --intent, under which nothing would be refused, or None if there
-    is none."""
-    name = full_name(shares.table)
-    for omitted, words in (*((frozenset([it]), f'omitted."{name}" = ["{it}"]') for it in OMISSIBLE),
-                           (frozenset(OMISSIBLE), f'append-only = ["{name}"]')):
-        if not refusals_of(database, replace(shares, omitted=omitted)):
-            return words
-    return None
-
-
 def operation_refusals(database: Database, shares: Shares) -> Iterator[str]:
-    """Yields the first operation that a subscriber is not sent, or is sent under other filters than INSERT."""
+    """Yields the operations that subscribers are not sent, or are sent under other filters than INSERT."""
+    lacking: dict[tuple[str, ...], list[str]] = {}
+    differing = []
     for subscriber, stream in shares.streams.items():
-        operation = next(broken_operations(database, shares, stream), None) if stream else None
-        if operation is None:
-            continue
-        having = [it for it in stream if operation in database.publications[it]["operations"]]
-        if not having:
-            yield missing_words(stream[0], operation)
-        else:
-            yield (f"subscriber {subscriber} takes publications {' and '.join(stream)}, which filter {operation} "
-                   f"otherwise than insert")
+        broken = list(broken_operations(database, shares, stream)) if stream else []
+        sent = {it for name in stream for it in database.publications[name]["operations"]}
+        missing = tuple(it for it in broken if it not in sent)
+        if missing:
+            lacking.setdefault(missing, []).extend(stream)
+        if len(broken) > len(missing) and "insert" not in missing:
+            listed = words_of([it for it in broken if it in sent])
+            differing.append(f"subscriber {subscriber} takes {words_of_publications(stream)}, whose filters for "
+                             f"{listed} differ from those for insert")
+    for operations, names in lacking.items():
+        yield missing_words(list(dict.fromkeys(names)), operations)
+    yield from differing
 
 
-def missing_words(publication: str, operation: str) -> str:
-    """Returns the message that a publication leaves out an operation."""
-    return f"publication {publication}, which has a subscriber, does not publish {operation}"
+def missing_words(publications: Sequence[str], operations: Sequence[str]) -> str:
+    """Returns the message that publications leave out operations."""
+    do = "do" if publications[1:] else "does"
+    return f"{words_of_publications(publications)} {do} not publish {words_of(operations)}"
+
+
+def words_of_publications(names: Sequence[str]) -> str:
+    """Returns the names of publications in words."""
+    return f"publication{'s' if names[1:] else ''} {words_of(names)}"
+
+
+def words_of(names: Sequence[str]) -> str:
+    """Returns names in words."""
+    return " and ".join([*([", ".join(names[:-1])] if names[1:] else []), *names[-1:]])
 
 
 def identity_refusals(database: Database, shares: Shares) -> Iterator[str]:
     """Yields why the server refuses updates and deletes. It checks all publications of a table, including those that
     nobody subscribes to."""
     for leaf in shares.leaves:
-        if leaf["kind"] == "p" or not leaf["is_publishable"]:
-            continue
         where = "" if leaf is shares.table else f" of partition {full_name(leaf)}"
-        carrying = [it for it in database.publications.values()
-                    if (CHANGES - shares.omitted) & set(it["operations"])
-                     and database.published_as(it, leaf) is not None]
-        columns = identity_of(leaf)
-        if columns is None and carrying:
-            changes = changes_of(carrying)
-            yield f"it has no replica identity{where} that can be used, so the server refuses its {changes}"
-            continue
-        for publication in carrying:
-            yield from uncovered(database, publication, leaf, columns or [], where)
-            yield from ungenerated(database, publication, leaf, columns or [], where)
+        yield from leaf_refusals(database, leaf, shares.omitted, where)
+
+
+def leaf_refusals(database: Database, leaf: Table, omitted: frozenset[str], where: str) -> Iterator[str]:
+    """Yields the same for a table that stores rows."""
+    if leaf["kind"] == "p" or not leaf["is_publishable"]:
+        return
+    carrying = [it for it in database.publications.values()
+                if (CHANGES - omitted) & set(it["operations"]) and database.published_as(it, leaf) is not None]
+    columns = identity_of(leaf)
+    if columns is None:
+        if carrying:
+            yield f"the server refuses {changes_of(carrying)}{where}, since {WITHOUT_IDENTITY[leaf['identity']]}"
+        return
+    found: dict[Gap, list[str]] = {}
+    for publication in carrying:
+        for kind, lacking in (*uncovered(database, publication, leaf, columns),
+                              *ungenerated(database, publication, leaf, columns)):
+            gap = Gap(changes_of([publication]), kind, tuple(lacking))
+            found.setdefault(gap, []).append(publication["name"])
+    for gap, names in found.items():
+        yield f"the server refuses {gap.changes}{where}, since {gap.words(names)}"
 
 
 def identity_of(table: Table) -> list[str] | None:
@@ -87,8 +133,7 @@ def changes_of(publications: list[Publication]) -> str:
     return " and ".join(f"{it}s" for it in OPERATIONS if it in CHANGES & found)
 
 
-def uncovered(
-        database: Database, publication: Publication, leaf: Table, identity: list[str], where: str) -> Iterator[str]:
+def uncovered(database: Database, publication: Publication, leaf: Table, identity: list[str]) -> Lacking:
     """Yields columns that a filter names and the identity lacks, or that the identity has and a column list lacks."""
     if publication["all"]:
         return
@@ -97,26 +142,18 @@ def uncovered(
     entry = database.entry(publication, sent_as)
     if entry is None:
         return
-    name, changes = publication["name"], changes_of([publication])
-    for column in columns_of(entry["filter"]) if entry["filter"] else ():
-        if column not in identity:
-            yield (f"the filter of publication {name} names column {column}, which is not in the table's replica "
-                   f"identity{where}, so the server refuses its {changes}")
-    if not entry["numbers"]:
-        return
-    if leaf["identity"] == "f":
-        yield (f"publication {name} has a column list, and the table's replica identity{where} is FULL, so the server "
-               f"refuses its {changes}")
-        return
-    listed = names_of(database.by_oid[sent_as], entry["numbers"])
-    for column in identity:
-        if column not in listed:
-            yield (f"the column list of publication {name} lacks column {column} of the table's replica "
-                   f"identity{where}, so the server refuses its {changes}")
+    lacking = [it for it in columns_of(entry["filter"]) if it not in identity] if entry["filter"] else []
+    if lacking:
+        yield FILTER, lacking
+    if entry["numbers"] and leaf["identity"] == "f":
+        yield LIST_AND_FULL, []
+    elif entry["numbers"]:
+        listed = names_of(database.by_oid[sent_as], entry["numbers"])
+        if not set(identity) <= set(listed):
+            yield LIST, [it for it in identity if it not in listed]
 
 
-def ungenerated(
-        database: Database, publication: Publication, leaf: Table, identity: list[str], where: str) -> Iterator[str]:
+def ungenerated(database: Database, publication: Publication, leaf: Table, identity: list[str]) -> Lacking:
     """Yields generated columns of the identity that a publication does not publish. The server refuses changes then
     from PostgreSQL 18 on, in which publications say whether they publish such columns."""
     if publication["generated"] is None:
@@ -124,12 +161,14 @@ def ungenerated(
     oid = database.published_as(publication, leaf)
     entry = database.entry(publication, oid) if oid is not None and not publication["all"] else None
     listed = names_of(database.by_oid[oid], entry["numbers"]) if oid and entry and entry["numbers"] else None
+    lacking = []
     for column in leaf["columns"]:
         name = column["name"]
         is_published = name in listed if listed is not None else publication["generated"] == STORED
         if name in identity and column["generated"] and (column["is_virtual"] or not is_published):
-            yield (f"publication {publication['name']} does not publish column {name} of the table's replica "
-                   f"identity{where}, which is generated, so the server refuses its {changes_of([publication])}")
+            lacking.append(name)
+    if lacking:
+        yield GENERATED, lacking
 
 
 def stream_refusals(database: Database, shares: Shares) -> Iterator[str]:

@@ -128,8 +128,8 @@ def advice(verdict: Verdict) -> str:
     """Returns what to do if the repaired table is not sound."""
     reasons = " ".join(verdict.because)
     if "replica identity" in reasons:
-        return "; ALTER TABLE .. REPLICA IDENTITY FULL, or a filter by the columns of the identity, comes first"
-    if "does not publish" in reasons or "takes publication" in reasons:
+        return "; do one of these first, or filter by the columns of the identity"
+    if "not publish" in reasons or "takes publication" in reasons:
         return "; fix this first, and try again"
     return "; write the filters with fewer conditions, or by one column, and ask again"
 

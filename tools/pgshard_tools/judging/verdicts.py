@@ -3,7 +3,18 @@
 import re
 from dataclasses import dataclass, field, replace
 
-from pgshard_tools.judging import catalogs, evaluating, failing, limits, program, refusals, rows, trials, witnesses
+from pgshard_tools.judging import (
+    catalogs,
+    evaluating,
+    failing,
+    limits,
+    mending,
+    program,
+    refusals,
+    rows,
+    trials,
+    witnesses,
+)
 from pgshard_tools.judging.counting import Counts
 from pgshard_tools.judging.database import OPERATIONS, Database, full_name
 from pgshard_tools.judging.faults import FAILURES, Undecided
@@ -114,11 +125,11 @@ def judged_alone(db: Database, shares: Shares, purpose: str | None, session: Ses
     stopped = list(failing.unprepared(db, read, session))
     is_refused = bool(refused or stopped) and verdict.answer in (SOUND, REFUSED)
     if is_refused:
-        verdict.answer = REFUSED
+        # What the check refuses of the catalog is among the reasons.
+        verdict.answer, verdict.because = REFUSED, verdict.because if not refused else []
     verdict.because = list(dict.fromkeys([*verdict.because, *refused, *stopped]))
-    allowing = refusals.allowing(db, shares) if is_refused and not stopped else None
-    if allowing is not None:
-        verdict.because.append(f"{allowing} in a file of --intent would allow it")
+    if is_refused and not stopped:
+        verdict.because.extend(mending.advice(db, shares))
     return verdict
 
 
@@ -198,7 +209,7 @@ def accepted(name: str, trial: Trial, takers: Takers, purpose: str | None) -> Ve
     missing = re.fullmatch(r"refused PublishMissing (.*) (\w+)\n", last, re.S)
     if missing:
         verdict.answer = REFUSED
-        verdict.because.append(refusals.missing_words(missing[1], missing[2]))
+        verdict.because.append(refusals.missing_words([missing[1]], [missing[2]]))
     elif last != "accepted\n":
         verdict.answer = NOT_DECIDED
         verdict.because.append(f"pgshard check answers {last.strip()}")

@@ -167,7 +167,7 @@ def of_refused(database: Database, table: Judged) -> Iterator[Finding]:
         refusals = [database.refusal(OPERATIONS[it].format(table=leaf)) for it in OPERATIONS for leaf in table.leaves]
         if table.leaves and not any(it and it.startswith(REFUSALS) for it in refusals):
             yield table.finding("wrong REFUSED: the server takes updates and deletes", reasons)
-    if "does not publish" not in reasons:
+    if "not publish" not in reasons:
         for finding in of_sound(database, table):
             yield finding
 

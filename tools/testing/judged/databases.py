@@ -485,7 +485,7 @@ DATABASES = [
         CREATE TABLE rows (id integer PRIMARY KEY);
         CREATE PUBLICATION low FOR TABLE rows WHERE (id < 0);
         CREATE PUBLICATION high FOR TABLE rows WHERE (id >= 0) WITH (publish = 'insert, update');
-    """, {"rows": "refused"}, told=["publication high, which has a subscriber, does not publish delete"]),
+    """, {"rows": "refused"}, told=["publication high does not publish delete and truncate"]),
     # A condition with CASE, and boolean values that are compared.
     Case("cases", """
         CREATE TABLE jobs (id integer PRIMARY KEY, kind text NOT NULL, urgent boolean NOT NULL, prio integer);

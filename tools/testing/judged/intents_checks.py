@@ -23,6 +23,19 @@ SETUP = """
     CREATE PUBLICATION asia_orders FOR TABLE orders WHERE (id >= 100), scratch WHERE (id > 0)
         WITH (publish = 'insert, update, delete');
 """
+REFUSED = """
+    CREATE TABLE notes (id integer PRIMARY KEY, region integer NOT NULL);
+    CREATE TABLE orders (id integer PRIMARY KEY);
+    CREATE PUBLICATION a FOR TABLE orders WHERE (id < 100) WITH (publish = 'insert, update, delete');
+    CREATE PUBLICATION b FOR TABLE orders WHERE (id >= 100) WITH (publish = 'insert, update, delete');
+    CREATE PUBLICATION c FOR TABLE notes WHERE (region < 100);
+    CREATE PUBLICATION d FOR TABLE notes WHERE (region >= 100);
+"""
+MENDS = """
+    ALTER TABLE public.notes REPLICA IDENTITY FULL;
+    ALTER PUBLICATION a SET (publish = 'insert, update, delete, truncate');
+    ALTER PUBLICATION b SET (publish = 'insert, update, delete, truncate');
+"""
 INTENT = """\
 copied = ["settings"]
 partial = ["drafts"]
@@ -51,16 +64,17 @@ public.drafts: NOT SOUND: the row (0, 200) goes to no subscriber
     region = 200, no filter names another column
     but partial = ["public.drafts"] in pgshard.toml would allow it
     region >= 200 -> nobody, as (0, 200)
-public.events: REFUSED: each row passes the filters of one subscriber, but publication europe_events, which has a \
-subscriber, does not publish update; publication asia_events, which has a subscriber, does not publish update; \
-append-only = ["public.events"] in a file of --intent would allow it
-public.orders: REFUSED: each row passes the filters of one subscriber, but publication europe_orders, which has a \
-subscriber, does not publish truncate; publication asia_orders, which has a subscriber, does not publish truncate; \
-omitted."public.orders" = ["truncate"] in a file of --intent would allow it
+public.events: REFUSED: each row passes the filters of one subscriber, but publications europe_events and asia_events do \
+not publish update, delete and truncate; ALTER PUBLICATION .. SET (publish = 'insert, update, delete, truncate'), with \
+ALTER TABLE public.events REPLICA IDENTITY FULL, mends that; if rows are only ever inserted, \
+append-only = ["public.events"] in a file of --intent allows it
+public.orders: REFUSED: each row passes the filters of one subscriber, but publications europe_orders and asia_orders do \
+not publish truncate; ALTER PUBLICATION .. SET (publish = 'insert, update, delete, truncate') mends that; \
+if that is on purpose, omitted."public.orders" = ["truncate"] in a file of --intent allows it
 public.scratch: NOT SOUND: the row (0) goes to no subscriber
     id = 0
     but partial = ["public.scratch"] in pgshard.toml would allow it
-    REFUSED, too: publication asia_orders, which has a subscriber, does not publish truncate
+    REFUSED, too: publication asia_orders does not publish truncate
     id < 1 -> nobody, as (0)
 public.settings: NOT SOUND: the row ('', NULL) goes to london and tokyo
     no filter names a column
@@ -83,12 +97,23 @@ def check_intents(tally: Tally, server: Server) -> None:
         "    id < 1 -> nobody, as (0)", "public.settings: sound (copied to all subscribers)"])
     tally.check("-v beside a file", said(server, INTENT, "-v", "subscriptions=one=europe two=asia").splitlines()[-3], (
         "the subscribers are those of -v subscriptions"))
+    check_refused(tally, server, document)
     for text, words in {
             'copied = ["gone"]': "copied: public.gone: no such table is published",
             "[omitted]\ngone = ['update']": "omitted: public.gone: no such table is published",
             "skipped = []": "skipped: an intention is one of copied, partial, append-only, skip, omitted, subscribers",
             "[omitted]\norders = ['insert']": "omitted.orders: insert is not one of update, delete, truncate"}.items():
         tally.check(f"a file with {text}", said(server, text), f"judge: pgshard.toml: {words}\nstatus 2\n")
+
+
+def check_refused(tally: Tally, server: Server, document: str) -> None:
+    """Tests the lines of refused tables, as shown in docs/JUDGING.md, and that what mends them does."""
+    server.create("mended", REFUSED)
+    lines = judge(*server.words("mended")).splitlines()[:2]
+    tally.check("what judge says of refused tables in docs/JUDGING.md", "\n".join(lines) in document, True)
+    server.psql("mended", MENDS)
+    tally.check("what mends them", judge(*server.words("mended")).splitlines()[:2], [
+        "public.notes: sound", "public.orders: sound"])
 
 
 def said(server: Server, intent: str, *words: str) -> str:

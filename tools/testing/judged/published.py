@@ -195,7 +195,7 @@ PUBLISHED = [
         ALTER TABLE people REPLICA IDENTITY FULL;
         INSERT INTO people VALUES (1, 'a');
         CREATE PUBLICATION one FOR TABLE people (id, name);
-    """, {"people": "refused"}, told=["publication one has a column list, and the table's replica identity is FULL"],
+    """, {"people": "refused"}, told=["publication one has a column list, and the replica identity is FULL"],
         fails=[("UPDATE people SET name = 'b'", "Column list used by the publication does not cover")]),
     # The server checks the filters and lists of all publications of a table, also of those that nobody subscribes to.
     Case("nobody_takes_it", """
@@ -211,8 +211,8 @@ PUBLISHED = [
     """, {"orders": "refused", "lines": "refused", "notes": "refused", "kept": "sound"},
         words=["-v", "subscriptions=london=taken,of_inserts"],
         told=["the filter of publication other names column region", "the column list of publication other lacks column "
-              "id", "publication of_inserts, which has a subscriber, does not publish update",
-              "it has no replica identity that can be used"],
+              "id", "publication of_inserts does not publish update, delete and truncate",
+              "the server refuses updates and deletes, since it has no replica identity, such as a primary key"],
         fails=[("UPDATE orders SET region = 2", "Column used in the publication WHERE expression is not part of"),
                ("DELETE FROM lines", "Column list used by the publication does not cover the replica identity"),
                ("UPDATE notes SET id = 2", "does not have a replica identity and publishes updates")]),
@@ -237,8 +237,8 @@ PUBLISHED = [
         CREATE PUBLICATION rest FOR TABLE same WHERE (id <= 0);
     """, {"same": "sound", "unlike": "refused", "other": "not sound:", "inserted": "refused"},
         words=["-v", "subscriptions=one=added,changed two=rest"],
-        told=["subscriber one takes publications added and changed, which filter update otherwise than insert",
-              "publication added, which has a subscriber, does not publish update"]),
+        told=["subscriber one takes publications added and changed, whose filters for update and delete differ from those",
+              "publication added does not publish update, delete and truncate"]),
     # The root's publication does not publish inserts. The partition's publication does, and then no filter applies.
     Case("split_levels", """
         CREATE TABLE log (id bigint PRIMARY KEY) PARTITION BY RANGE (id);

@@ -93,11 +93,10 @@ REPAIRED = [
     Repaired("identity", """
         CREATE TABLE t (id integer PRIMARY KEY, region integer);
         CREATE PUBLICATION p FOR TABLE t WHERE (region < 5);
-    """, why="with the repair it would be refused: the filter of publication p names column region, which is not in "
-             "the table's replica identity, so the server refuses its updates and deletes; the filter of publication "
-             "t_rest names column region, which is not in the table's replica identity, so the server refuses its "
-             "updates and deletes; append-only = [\"public.t\"] in a file of --intent would allow it; ALTER TABLE .. "
-             "REPLICA IDENTITY FULL, or a filter by the columns of the identity, comes first"),
+    """, why="with the repair it would be refused: the server refuses updates and deletes, since the filters of "
+             "publications p and t_rest name column region, which is not in the replica identity; ALTER TABLE public.t "
+             "REPLICA IDENTITY FULL mends that; if rows are only ever inserted, append-only = [\"public.t\"] in a file "
+             "of --intent allows it; do one of these first, or filter by the columns of the identity"),
     # No subscriber may fail that did not fail before.
     Repaired("failing", """
         CREATE TABLE t (id integer PRIMARY KEY, a integer NOT NULL, b integer NOT NULL);

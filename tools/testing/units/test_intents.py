@@ -9,7 +9,7 @@ from unittest import mock
 from pgshard_tools.judging import intents, verdicts
 from pgshard_tools.judging.database import Subscriber
 from pgshard_tools.judging.faults import BAD_COMMAND, Fault
-from pgshard_tools.judging.refusals import allowing, refusals_of
+from pgshard_tools.judging.refusals import refusals_of
 from pgshard_tools.judging.shares import shares_of_all
 from pgshard_tools.judging.verdicts import Verdict
 from units.catalogs import database, entry, publication, table
@@ -87,6 +87,8 @@ class Omitting(unittest.TestCase):
         self.assertEqual(self.refused("append-only = ['t']", inserting), [])
         self.assertEqual(len(self.refused("[omitted]\nt = ['update']", inserting)), 1)
         self.assertEqual(len(self.refused("append-only = ['other']", inserting)), 1)
+        self.assertEqual(self.refused("[omitted]\nt = ['update']", publication("p", entry(1), operations=["insert"])), [
+            "publication p does not publish delete and truncate"])
 
     def test_an_identity_that_is_not_needed(self) -> None:
         given = {"identity": "n", "identity_numbers": None}
@@ -96,13 +98,6 @@ class Omitting(unittest.TestCase):
     def test_an_insert_is_never_left_out(self) -> None:
         changing = publication("p", entry(1), operations=["update", "delete", "truncate"])
         self.assertEqual(len(self.refused("append-only = ['t']", changing)), 1)
-
-    def test_which_intention_would_allow_it(self) -> None:
-        for operations, words in {
-            ("insert", "update", "delete"): 'omitted."public.t" = ["truncate"]',
-            ("insert",): 'append-only = ["public.t"]', ("update", "delete", "truncate"): None}.items():
-            db, found = self.shares("", publication("p", entry(1), operations=list(operations)))
-            self.assertEqual(allowing(db, found[0]), words)
 
     def test_skipping(self) -> None:
         self.assertEqual(self.shares("skip = ['t']", publication("p", entry(1)))[1], [])

@@ -24,36 +24,45 @@ class Identities(unittest.TestCase):
     def test_of_a_publication_that_nobody_takes(self) -> None:
         found = refused([table(1, "t")], [publication("p", entry(1)), publication("q", entry(1, "(region > 5)"))], "p")
         self.assertEqual(len(found), 1)
-        self.assertIn("publication q names column region", found[0])
+        self.assertEqual(found, ["the server refuses updates and deletes, since the filter of publication q names column "
+                                 "region, which is not in the replica identity"])
 
     def test_of_a_publication_of_inserts(self) -> None:
         self.assertEqual(refused([table(1, "t")], [
             publication("p", entry(1)), publication("q", entry(1, "(region > 5)"), operations=["insert"])], "p"), [])
 
+    def test_filters_of_several(self) -> None:
+        found = refused([table(1, "t")], [
+            publication(name, entry(1, "(region > 5 AND other IS NULL)")) for name in ("p", "q", "r")], "p")
+        self.assertEqual(found, ["the server refuses updates and deletes, since the filters of publications p, q and r "
+                                 "name columns region and other, which are not in the replica identity"])
+
     def test_no_identity(self) -> None:
-        for identity, numbers in ("n", None), ("d", None), ("i", None):
+        for identity, words in {
+            "n": "its replica identity is NOTHING", "d": "it has no replica identity, such as a primary key that is not deferrable",
+            "i": "the index of its replica identity is missing or not valid",
+        }.items():
             with self.subTest(identity):
                 found = refused(
-                    [table(1, "t", identity=identity, identity_numbers=numbers)], [publication("p", entry(1))], "p")
-                self.assertEqual(len(found), 1)
-                self.assertIn("no replica identity that can be used, so the server refuses its updates and", found[0])
+                    [table(1, "t", identity=identity, identity_numbers=None)], [publication("p", entry(1))], "p")
+                self.assertEqual(found, [f"the server refuses updates and deletes, since {words}"])
 
     def test_only_deletes(self) -> None:
         found = refused([table(1, "t", identity="n", identity_numbers=None)], [
             publication("p", entry(1), operations=["insert", "truncate"]),
             publication("q", entry(1), operations=["delete"])], "p")
         self.assertEqual(len(found), 2)
-        self.assertIn("so the server refuses its deletes", found[1])
+        self.assertEqual(found[1], "the server refuses deletes, since its replica identity is NOTHING")
 
     def test_lists_and_full(self) -> None:
         found = refused([table(1, "t", identity="f")], [publication("p", entry(1, None, [1, 2]))], "p")
         self.assertEqual(len(found), 1)
-        self.assertIn("replica identity is FULL", found[0])
+        self.assertIn("since publication p has a column list, and the replica identity is FULL", found[0])
 
     def test_a_list_without_the_key(self) -> None:
         found = refused([table(1, "t")], [publication("p", entry(1, None, [2]))], "p")
         self.assertEqual(len(found), 1)
-        self.assertIn("lacks column id", found[0])
+        self.assertIn("since the column list of publication p lacks column id, which is in the replica", found[0])
 
     def test_a_filter_beside_its_schema(self) -> None:
         found = refused([table(1, "t")], [publication("p", entry(1, "(region > 5)"), schemas=["public"])], "p")
@@ -126,17 +135,35 @@ class Streams(unittest.TestCase):
 
 
 class Operations(unittest.TestCase):
-    def test_an_operation_that_is_missing(self) -> None:
-        for operations, missing in (["insert"], "update"), (["update", "delete", "truncate"], "insert"):
+    def test_operations_that_are_missing(self) -> None:
+        for operations, missing in {
+            ("insert",): "update, delete and truncate", ("update", "delete", "truncate"): "insert",
+            ("insert", "update", "truncate"): "delete", (): "insert, update, delete and truncate",
+        }.items():
             with self.subTest(missing):
-                found = refused([table(1, "t")], [publication("p", entry(1), operations=operations)], "p")
-                self.assertEqual(found, [f"publication p, which has a subscriber, does not publish {missing}"])
+                found = refused([table(1, "t")], [publication("p", entry(1), operations=list(operations))], "p")
+                self.assertEqual(found, [f"publication p does not publish {missing}"])
+
+    def test_operations_that_several_subscribers_lack(self) -> None:
+        db = database([table(1, "t")], [
+            publication("p", entry(1, "(id > 5)"), operations=["insert"]), publication("q", entry(1, "(id = 5)")),
+            publication("r", entry(1, "(id < 5)"), operations=["insert"]),
+            publication("s", entry(1, "(id < 5)"), operations=["update", "delete"])])
+        subscribers = [Subscriber("a", ["p"]), Subscriber("b", ["q"]), Subscriber("c", ["r", "s"])]
+        self.assertEqual(refusals_of(db, shares_of_all(db, subscribers)[0]), [
+            "publication p does not publish update, delete and truncate",
+            "publications r and s do not publish truncate"])
+        subscribers[2] = Subscriber("c", ["r"])
+        self.assertEqual(refusals_of(db, shares_of_all(db, subscribers)[0]), [
+            "publications p and r do not publish update, delete and truncate"])
 
     def test_operations_by_two_filters(self) -> None:
         found = refused([table(1, "t")], [
             publication("p", entry(1, "(id > 5)"), operations=["insert"]),
-            publication("q", entry(1, "(id <= 5)"), operations=["update", "delete", "truncate"])], "p", "q")
-        self.assertEqual(found, ["subscriber s takes publications p and q, which filter update otherwise than insert"])
+            publication("q", entry(1, "(id <= 5)"), operations=["update", "delete"])], "p", "q")
+        self.assertEqual(found, [
+            "publications p and q do not publish truncate",
+            "subscriber s takes publications p and q, whose filters for update and delete differ from those for insert"])
 
     def test_operations_by_one_filter(self) -> None:
         self.assertEqual(refused([table(1, "t")], [

@@ -99,11 +99,13 @@ class Answers(unittest.TestCase):
     def test_what_the_server_refuses(self) -> None:
         keyless = table(1, "t", identity="n", identity_numbers=None)
         found = verdict_of("o 0\n", tables=[keyless])
-        self.assertEqual((found.answer, len(found.because)), (verdicts.REFUSED, 2))
-        self.assertEqual(found.because[1], 'append-only = ["public.t"] in a file of --intent would allow it')
+        self.assertEqual((found.answer, found.because), (verdicts.REFUSED, [
+            "the server refuses updates and deletes, since its replica identity is NOTHING",
+            "ALTER TABLE public.t REPLICA IDENTITY FULL mends that",
+            'if rows are only ever inserted, append-only = ["public.t"] in a file of --intent allows it']))
         found = verdict_of(COUNTER, confirmed=Confirmed(True, []), tables=[keyless])
         self.assertEqual((found.answer, len(found.because)), (verdicts.NOT_SOUND, 1))
-        self.assertIn("    REFUSED, too: it has no replica identity", "\n".join(lines_of(found)))
+        self.assertIn("    REFUSED, too: the server refuses updates and deletes, since", "\n".join(lines_of(found)))
 
     def test_a_filter_that_is_not_read(self) -> None:
         found = verdict_of("o 0\n", publications=[publication("p", entry(1, "(strange(id))"))])
