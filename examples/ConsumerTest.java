@@ -21,8 +21,9 @@ import org.postgresql.replication.PGReplicationStream;
  *
  *     java -cp /usr/share/java/postgresql.jar examples/ConsumerTest.java
  *
- * It is run in the repository's folder. It starts pgshard publish with examples/shop.sql, and tools/front before it. The
- * environment variable PGSHARD names a built program in place of the script pgshard.
+ * It is run in the folder that contains examples/. It starts pgshard publish with examples/shop.sql, and pgshard front
+ * before it: those of this folder, or otherwise those on the path. The environment variable PGSHARD names another program
+ * to run as publish.
  */
 public class ConsumerTest {
     /** What is committed: an order for london, which moves to tokyo, and another order for london. */
@@ -150,14 +151,16 @@ public class ConsumerTest {
         final int port;
 
         Publisher() throws Exception {
-            String pgshard = System.getenv().getOrDefault("PGSHARD", "./pgshard");
+            String named = System.getenv().getOrDefault("PGSHARD", "pgshard");
+            String script = new File("./pgshard").exists() ? "./pgshard" : named;
+            String pgshard = named.equals("pgshard") ? script : named;
             String catalog = "examples/shop.sql";
             Process make = new ProcessBuilder(pgshard, "make").redirectInput(new File(catalog))
                 .redirectError(ProcessBuilder.Redirect.INHERIT).start();
             String certificates = new String(make.getInputStream().readAllBytes(), StandardCharsets.UTF_8);
             publish = new Started(pgshard, "publish", "--port", "0");
             publish.say(Files.readString(Path.of(catalog)) + "%%\n" + certificates + "%%\n");
-            front = new Started("tools/front", "--port", "0", "--backend", publish.port(), "--catalog", catalog);
+            front = new Started(script, "front", "--port", "0", "--backend", publish.port(), "--catalog", catalog);
             port = Integer.parseInt(front.port());
         }
 

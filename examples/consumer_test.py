@@ -4,14 +4,15 @@ and it loses nothing of what is committed meanwhile.
 
     examples/consumer_test.py
 
-It starts pgshard publish with examples/shop.sql, and tools/front before it. The environment variable PGSHARD names a
-built program in place of the script pgshard.
+It starts pgshard publish with examples/shop.sql, and pgshard front before it: those of the clone that it is in, or
+otherwise those on the path. The environment variable PGSHARD names another program to run as publish.
 """
 
 import contextlib
 import os
 import pathlib
 import select
+import shutil
 import socket
 import struct
 import subprocess
@@ -21,8 +22,10 @@ import time
 import psycopg2
 from psycopg2.extras import LogicalReplicationConnection
 
-ROOT = pathlib.Path(__file__).resolve().parent.parent
-PGSHARD = os.environ.get("PGSHARD") or str(ROOT / "pgshard")
+EXAMPLES = pathlib.Path(__file__).resolve().parent
+OF_CLONE = EXAMPLES.parent / "pgshard"
+SCRIPT = str(OF_CLONE) if OF_CLONE.exists() else shutil.which("pgshard") or os.environ.get("PGSHARD") or "pgshard"
+PGSHARD = os.environ.get("PGSHARD") or SCRIPT
 
 # What is committed: an order for london, which moves to tokyo, and another order for london.
 COMMITS = [
@@ -47,12 +50,12 @@ class Publisher:
     """pgshard publish with a front before it, and the port of the front."""
 
     def __init__(self, running: contextlib.ExitStack) -> None:
-        catalog = ROOT / "examples" / "shop.sql"
+        catalog = EXAMPLES / "shop.sql"
         made = subprocess.run([PGSHARD, "make"], stdin=catalog.open(), stdout=subprocess.PIPE, check=True, text=True)
         self.program = started(running, [PGSHARD, "publish", "--port", "0"])
         self.say(f"{catalog.read_text()}%%\n{made.stdout}%%\n")
         front = started(running, [
-            str(ROOT / "tools" / "front"), "--port", "0", "--backend", port_of(self.program), "--catalog", str(catalog)])
+            SCRIPT, "front", "--port", "0", "--backend", port_of(self.program), "--catalog", str(catalog)])
         self.port = int(port_of(front))
 
     def say(self, text: str) -> None:

@@ -70,10 +70,15 @@ def run(words: list[str], help: str) -> int:
     repository = Repository()
     if given.program is None and check(repository) != WELL:
         return DIFFERS
+    if not given.output.is_dir():
+        parser.error(f"there is no folder {given.output}")
     path = given.output / f"pgshard_{version()}_amd64.deb"
     try:
         write_package(path, (given.program or repository.released).resolve())
-    except (OSError, subprocess.CalledProcessError) as fault:
+    except subprocess.CalledProcessError as fault:
+        print(f"package: {fault.cmd[0]} ended with status {fault.returncode}", file=sys.stderr)
+        return DIFFERS
+    except OSError as fault:
         print(f"package: {fault}", file=sys.stderr)
         return DIFFERS
     print(path)

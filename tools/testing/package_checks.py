@@ -9,6 +9,7 @@ import tempfile
 from pathlib import Path
 
 from programs import TOOLS, program
+from pythons import python_with
 from served.program import NO_PORT, PORTS, free_port
 from tally import Tally
 
@@ -47,6 +48,7 @@ def check_package(tally: Tally) -> None:
         check_files(tally, package, folder / "root")
         check_commands(tally, folder)
         check_serving(tally, folder)
+        check_consumer(tally, folder)
         check_pages(tally, folder / "root" / "usr" / "share" / "man" / "man1")
         check_completion(tally, folder / "root")
         check_make(tally, folder)
@@ -130,6 +132,22 @@ def check_serving(tally: Tally, folder: Path) -> None:
         tally.check(f"{words[0]} listens", found, f"listening {port}\n")
 
 
+def check_consumer(tally: Tally, folder: Path) -> None:
+    """Runs the installed example of a consumer, which finds the command on the path or by a variable."""
+    python = python_with("psycopg2")
+    if python is None:
+        print("skipped: the installed consumer test, since psycopg2 is not installed")
+        return
+    example = folder / "root/usr/share/doc/pgshard/examples/consumer_test.py"
+    commands = folder / "root/usr/bin"
+    for more in {"PATH": f"{commands}:/usr/bin:/bin"}, {"PGSHARD": str(commands / "pgshard")}:
+        answer = subprocess.run(
+            [python, example], stdin=subprocess.DEVNULL, stdout=subprocess.PIPE, stderr=subprocess.PIPE,
+            encoding="utf-8", cwd=folder / "away", env=environment() | more, timeout=300, **rights())
+        tally.check(f"the installed consumer test by {[*more]}", (answer.returncode, answer.stdout.splitlines()[-1:]), (
+            0, ["nothing is lost"]))
+
+
 def check_pages(tally: Tally, folder: Path) -> None:
     """Checks that the manual pages are rendered without warnings, and have the expected sections."""
     pages = sorted(folder.glob("*.gz"))
@@ -210,6 +228,10 @@ def check_lintian(tally: Tally, package: Path) -> None:
 def check_refused(tally: Tally, folder: Path) -> None:
     """Checks that no package is built from a program that does not exist."""
     answer = subprocess.run(
-        [TOOLS / "package", "--program", folder / "none", "--output", folder], stdout=subprocess.PIPE,
-        stderr=subprocess.DEVNULL)
+        [TOOLS / "package", "--program", folder / "none", "--output", folder], capture_output=True)
     tally.check("a package without a program", (answer.returncode, answer.stdout), (1, b""))
+    tally.check("why there is none", answer.stderr.splitlines()[-1:], [b"package: make ended with status 2"])
+    answer = subprocess.run(
+        [TOOLS / "package", "--program", program(), "--output", folder / "none"], capture_output=True)
+    tally.check("a package without a folder", (answer.returncode, answer.stderr.splitlines()[-1]), (
+        2, f"tools/package: error: there is no folder {folder}/none".encode()))

@@ -111,6 +111,14 @@ def check_sum(tally: Tally, fake: Fake) -> None:
     tally.check("the sum of the sources", fake.run("tools/sources"), (0, f"{expected}\n", ""))
     listed = "".join(f"{name}\n" for name in ["crates.txt", *SOURCES])
     tally.check("the list of the sources", fake.run("tools/sources", "--list"), (0, listed, ""))
+    for name in "awk", "find", "sha256sum", "sort":
+        (fake.bin / name).write_text("#!/bin/sh\nexit 3\n")
+        (fake.bin / name).chmod(0o755)
+        status, output, _ = fake.run("tools/sources", with_rt=True)
+        tally.check(f"the sum of the sources if {name} fails", (status != 0, output), (True, ""))
+        found = fake.run("make", with_rt=True)
+        tally.check(f"a run if {name} fails", found, (70, "", "pgshard: cannot read the sources\n"))
+        (fake.bin / name).unlink()
 
 
 def check_nothing_proved(tally: Tally, fake: Fake) -> None:

@@ -146,7 +146,8 @@ def file_of(options: Options) -> str | None:
         return word
     is_connection = "=" in word or "://" in word
     if not is_connection and ("/" in word or "." in word):
-        raise Fault(BAD_COMMAND, f"there is no file {word}; a database is named as in: -d shop")
+        why = f"{word} is a folder" if os.path.isdir(word) else f"there is no file {word}"
+        raise Fault(BAD_COMMAND, f"{why}; a database is named as in: -d shop")
     return None
 
 

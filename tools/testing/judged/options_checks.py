@@ -267,6 +267,7 @@ def check_refusals(tally, server):
         "judge: there is no file none.sql; a database is named as in: -d shop"], 2)
     with tempfile.TemporaryDirectory() as name:
         folder = pathlib.Path(name)
+        check_lines(tally, "a folder", judge(name), [f"judge: {name} is a folder; a database is named as in: -d shop"], 2)
         psql = folder / "psql"
         psql.write_text("#!/bin/sh\necho '{\"version\": 140005}'\n")
         psql.chmod(0o700)
