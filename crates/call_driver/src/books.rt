@@ -10,7 +10,7 @@ use sql_reader::write_row;
 use std::alloc::Global;
 use std::fmt::Debug;
 use table_changes::Command;
-use tables_log::{Book, Commit, CommitError, StartError, StatusAhead};
+use tables_log::{Book, Commit, CommitError, Lsn, StartError, StatusAhead};
 
 /// The answer, as shown for debugging.
 pub fn shown<T: Debug>(alloc: Global, value: &T) -> Result<String> {
@@ -147,7 +147,7 @@ fn confirm(
     position: u64,
     sent: u64,
 ) -> Result<Result<(), StatusAhead>> {
-    if sent > u64::from(book.log_len()) * 64 + 64 {
+    if sent > Lsn::end_of_commit(book.log_len()).to_u64() {
         bail!("no more was sent than the log has");
     }
     Ok(book.confirm(slot, position, sent))

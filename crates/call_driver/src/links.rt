@@ -91,7 +91,7 @@ fn answer_of_state(desk: &Desk, call: &str, given: &str) -> Result<Option<String
         .context("there is no such link")?;
     Ok(Some(match call {
         "started" => shown(desk.alloc, &link.started())?,
-        "sent" => shown(desk.alloc, &link.sent())?,
+        "sent" => shown(desk.alloc, &link.sent().map(|sent| sent.to_u64()))?,
         "output" => hexadecimal(desk.alloc, link.output())?,
         "waiting" => shown(desk.alloc, &link.output().len())?,
         _ => return Ok(None),

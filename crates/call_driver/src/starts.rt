@@ -9,11 +9,12 @@ use bytes::BytesMut;
 use copy_both::{Offer, StartAnswer, answer_start};
 use pub_catalog::Catalog;
 use std::alloc::{AllocError, Global};
+use tables_log::Lsn;
 
 /// Where the log ends, and which slots are in use.
 #[derive(Clone, Copy)]
 struct Given<'a> {
-    log_end: u64,
+    log_end: Lsn,
     in_use: &'a [bool],
 }
 
@@ -61,7 +62,8 @@ fn answered(desk: &mut Desk, given: &Given<'_>, kind: u8, body: &[u8]) -> Result
     let message = message(response.as_slice());
     match answer {
         StartAnswer::Stream { slot, position } => {
-            Ok(format!(in alloc; "slot {slot} from {position}{message}")?)
+            let from = position.to_u64();
+            Ok(format!(in alloc; "slot {slot} from {from}{message}")?)
         }
         StartAnswer::Refused(state) => Ok(format!(in alloc; "{} {message}", state.code())?),
     }
@@ -73,7 +75,7 @@ fn query(desk: &mut Desk, rest: &str) -> Result<String> {
     let (letters, text) = first(rest);
     let slots = slots(desk.alloc, letters)?;
     let given = Given {
-        log_end: number(log_end)?,
+        log_end: Lsn::new(number(log_end)?),
         in_use: slots.as_slice(),
     };
     let mut body = unescaped(desk.alloc, text)?.as_bytes().to_vec(desk.alloc)?;
@@ -88,7 +90,7 @@ fn frame(desk: &mut Desk, rest: &str) -> Result<String> {
     let (kind, digits) = first(rest);
     let slots = slots(desk.alloc, letters)?;
     let given = Given {
-        log_end: number(log_end)?,
+        log_end: Lsn::new(number(log_end)?),
         in_use: slots.as_slice(),
     };
     let body = bytes_of(desk.alloc, digits)?;

@@ -74,7 +74,7 @@ fn answer_of_state(desk: &Desk, call: &str) -> Result<Option<String>> {
     let voice = desk.voice.as_ref().context("there is no voice")?;
     Ok(Some(match call {
         "next" => shown(desk.alloc, &voice.next())?,
-        "sent" => shown(desk.alloc, &voice.sent())?,
+        "sent" => shown(desk.alloc, &voice.sent().map(|sent| sent.to_u64()))?,
         "output" => hexadecimal(desk.alloc, voice.output())?,
         "waiting" => shown(desk.alloc, &voice.output().len())?,
         _ => return Ok(None),

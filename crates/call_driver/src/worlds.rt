@@ -95,9 +95,9 @@ fn push_tables(alloc: Global, tables: &[Vec<Row>], answer: &mut String) -> Resul
 
 /// Appends a subscriber's position, the number of its commits, its confirmed position, and its rows.
 fn push_subscriber(alloc: Global, view: &SubscriberView, answer: &mut String) -> Result<()> {
-    let position = view.position;
+    let position = view.position.to_u64();
     let applied = view.applied;
-    let confirmed = view.confirmed;
+    let confirmed = view.confirmed.to_u64();
     write!(
         answer,
         "; at {position}, {applied} applied, confirmed to {confirmed},"

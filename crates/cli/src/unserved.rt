@@ -12,8 +12,8 @@ fn commits_to(position: u64) -> u64 {
 }
 
 /// The position after this many commits, of which no log has more than a number of 32 bits.
-fn end_of(commits: u64) -> u64 {
-    Lsn::end_of_commit(u32::try_from(commits).unwrap_or(u32::MAX)).to_u64()
+fn end_of(commits: u64) -> Lsn {
+    Lsn::end_of_commit(u32::try_from(commits).unwrap_or(u32::MAX))
 }
 
 /// How many commits a client of the slot has or was sent: those before its start, and those that followed, unless a

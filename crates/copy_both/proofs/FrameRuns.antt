@@ -4,7 +4,7 @@ use Rattle.std.specs.Prelude.{Option, Some, None, Result, Ok, Err, nat_lt, slice
 use Rattle.std.proofs.lemmas.Bool.{eqb-true, ltb-true}
 use Rattle.shard_checker.specs.CheckedView.{CheckedOf}
 use Rattle.tables_log.specs.BookView.{book_log, book_slots}
-use Rattle.tables_log.specs.Slots.{end_after}
+use Rattle.tables_log.specs.Lsn.{end_lsn_of}
 use Rattle.tables_log.specs.declared.book.Book.{Book}
 use Rattle.tables_log.specs.declared.slots.Slot.{Slot}
 use Rattle.copy_frames.specs.Contents.{status_in}
@@ -202,9 +202,9 @@ later_more reach before frames last (Ended kind ends none is) =
 module _ (served : ServedFrom) (slot : ℕ) (frame : Frame) (frames : List Frame) (h : HearingOf)
     (going : is_over h ≡ false)
     (runs : (next : HearingOf) → next.started ≡ h.started → is_over next ≡ false → next.sent ≡ h.sent
-    → Later (min h.sent (end_after served.commits)) frames (frames_heard served next frames)) where
+    → Later (min h.sent (end_lsn_of served.commits)) frames (frames_heard served next frames)) where
   abbrev reach : ℕ
-  reach = min h.sent (end_after served.commits)
+  reach = min h.sent (end_lsn_of served.commits)
 
   by_ahead : (status : Status) → IsStatus frame status → (ahead : Bool) → nat_lt reach status.flushed ≡ ahead
       → Later reach (frame ∷ frames) (frames_heard served (confirmed_by ahead slot status h) frames)
@@ -236,18 +236,18 @@ module _ (served : ServedFrom) (slot : ℕ) (frame : Frame) (frames : List Frame
 
 pub later_runs : (served : ServedFrom) (slot start : ℕ) (frames : List Frame) (h : HearingOf)
     → h.started ≡ Some (slot, start) → is_over h ≡ false
-    → Later (min h.sent (end_after served.commits)) frames (frames_heard served h frames)
+    → Later (min h.sent (end_lsn_of served.commits)) frames (frames_heard served h frames)
 unfolding frames_heard
 later_runs served slot start [] h is going = GoesOn going
 later_runs served slot start (frame ∷ frames) h is going =
     let step : frame_heard served h frame ≡ event_heard served slot (event_of frame.kind frame.body) h =
     ap (λ over. unless_over over h (next_heard served frame h.started h)) going
     ∙ ap (λ (s : Option (ℕ × ℕ)). next_heard served frame s h) is in
-    subst (λ (next : HearingOf). Later (min h.sent (end_after served.commits)) (frame ∷ frames)
+    subst (λ (next : HearingOf). Later (min h.sent (end_lsn_of served.commits)) (frame ∷ frames)
     (frames_heard served next frames)) (sym step)
     (by_event served slot frame frames h going
     (λ next same still sent. subst
-    (λ (n : ℕ). Later (min n (end_after served.commits)) frames (frames_heard served next frames)) sent
+    (λ (n : ℕ). Later (min n (end_lsn_of served.commits)) frames (frames_heard served next frames)) sent
     (later_runs served slot start frames next (same ∙ is) still))
     (event_of frame.kind frame.body) refl)
 
@@ -347,7 +347,7 @@ module _ (checked : CheckedOf) (book : Book) (is_for : IsBookFor checked book) w
 
   abbrev RanFrom : List Frame → Option (ℕ × ℕ) → ℕ → HearingOf → Type 0
   RanFrom frames was sent last =
-      Ran checked frames (min (sent_then was sent last.started) (end_after (length (book_log book)))) last
+      Ran checked frames (min (sent_then was sent last.started) (end_lsn_of (length (book_log book)))) last
 
   first_begins : (frame : Frame) (frames : List Frame) (h : HearingOf) → h.started ≡ None → is_over h ≡ false
       → h.response ≡ [] → frame.kind == 88 ≡ false → (b : BeginOf) → begin_with checked book frame ≡ b
@@ -365,8 +365,8 @@ module _ (checked : CheckedOf) (book : Book) (is_for : IsBookFor checked book) w
         begins = is;
       } in
       subst (λ (s : Option (ℕ × ℕ)). Ran checked (frame ∷ frames)
-      (min (sent_then None h.sent s) (end_after (length (book_log book)))) last) (sym still)
-      (from_later checked frame frames (frame ∷ frames) (min (first_sent start) (end_after (length (book_log book))))
+      (min (sent_then None h.sent s) (end_lsn_of (length (book_log book)))) last) (sym still)
+      (from_later checked frame frames (frame ∷ frames) (min (first_sent start) (end_lsn_of (length (book_log book))))
       last slot start refl asks still
       (later_runs lent slot start frames next refl going))
   first_begins frame frames h none going silent other (Refuses refusal) is =
@@ -435,7 +435,7 @@ module _ (checked : CheckedOf) (book : Book) (is_for : IsBookFor checked book) w
       (first_runs frames h is going silent at)
   runs_by before frames h going silent at (Some started) is asks =
       let last : HearingOf = frames_heard lent h frames in
-      let reach : ℕ = min h.sent (end_after (length (book_log book))) in
+      let reach : ℕ = min h.sent (end_lsn_of (length (book_log book))) in
       from_later checked asks.frame (asks.first.others ++ frames) (before ++ frames) reach last started.0 started.1
       (ap (λ (x : List Frame). x ++ frames) asks.first.frames_are)
       (asks_more checked before frames started.0 started.1 asks)
@@ -446,6 +446,6 @@ module _ (checked : CheckedOf) (book : Book) (is_for : IsBookFor checked book) w
   pub runs_on : (before frames : List Frame) (h : HearingOf) → is_over h ≡ false → h.response ≡ []
       → h.slots ≡ book_slots book → IsStartedBy checked before h.started
       → Ran checked (before ++ frames)
-      (min (sent_then h.started h.sent (frames_heard lent h frames).started) (end_after (length (book_log book))))
+      (min (sent_then h.started h.sent (frames_heard lent h frames).started) (end_lsn_of (length (book_log book))))
       (frames_heard lent h frames)
   runs_on before frames h going silent at started = runs_by before frames h going silent at h.started refl started

@@ -4,7 +4,7 @@ use Rattle.std.proofs.Common.{◌≡◌, ◌≢◌, ℕ, Bool, true, false, List
 use Rattle.std.specs.Prelude.{◌⊎◌, Option, Some, None, Result, Ok, Err, OnOk, OnErr, IsErrAnd, min, nat_lt}
 use Rattle.std.proofs.Math.Seq.{take-length}
 use Rattle.shard_checker.specs.CheckedView.{CheckedOf}
-use Rattle.tables_log.specs.Slots.{end_after}
+use Rattle.tables_log.specs.Lsn.{end_lsn_of}
 use Rattle.tables_log.specs.declared.book.Book.{Book}
 use Rattle.copy_frames.specs.Frames.{cut, frames_of, fault_in}
 use Rattle.copy_frames.specs.Inboxes.{Inbox}
@@ -45,7 +45,7 @@ event_started : (served : ServedFrom) (slot : ℕ) (e : Result Event LinkFault) 
 event_started served slot (Err fault) h = refl
 event_started served slot (Ok (event.End kind)) h = refl
 event_started served slot (Ok (event.Status status)) h =
-    confirmed_started (nat_lt (min h.sent (end_after served.commits)) status.flushed) slot status h
+    confirmed_started (nat_lt (min h.sent (end_lsn_of served.commits)) status.flushed) slot status h
 
 over_started : (over : Bool) (h next : HearingOf) → next.started ≡ h.started
     → (unless_over over h next).started ≡ h.started

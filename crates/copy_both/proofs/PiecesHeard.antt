@@ -5,7 +5,8 @@ use Rattle.std.proofs.lemmas.List.{take-append-drop}
 use Rattle.filter_tree.specs.Memory.{Answers}
 use Rattle.shard_checker.specs.CheckedView.{CheckedOf}
 use Rattle.tables_log.specs.BookView.{book_log, book_slots}
-use Rattle.tables_log.specs.Slots.{confirmed_at, end_after}
+use Rattle.tables_log.specs.Lsn.{end_lsn_of}
+use Rattle.tables_log.specs.Slots.{confirmed_at}
 use Rattle.tables_log.specs.declared.book.Book.{Book}
 use Rattle.copy_frames.specs.Frames.{FrameCut, cut, after_frames, cut_fault, frames_of, rest_of, fault_in}
 use Rattle.copy_frames.specs.declared.fault.FrameFault.{FrameFault}
@@ -239,7 +240,7 @@ module _ (bytes piece : List ℕ) (old new : Ear) (before after : Book) (sent : 
   last = frames_heard served start (frames_of whole)
 
   abbrev reached : Option (ℕ × ℕ) → ℕ
-  reached now = min (sent_then (ear_started old) sent now) (end_after (length (book_log before)))
+  reached now = min (sent_then (ear_started old) sent now) (end_lsn_of (length (book_log before)))
 
   ran : Ran (ear_checked old) (frames_in all) (reached last.started) last
   ran = subst (λ (x : List Frame). Ran (ear_checked old) x (reached last.started) last) (sym all_frames)

@@ -1,7 +1,7 @@
 -- A response is written only for a start that is refused: if no frame had a fault, there is none.
 use Rattle.std.proofs.Common.{◌≡◌, ℕ, ◌==◌, Bool, true, false, if◌then◌else◌, List, [], ◌∷◌, refl, sym, ap, ◌∙◌}
 use Rattle.std.specs.Prelude.{Option, Some, None, Result, Ok, Err, min, nat_lt}
-use Rattle.tables_log.specs.Slots.{end_after}
+use Rattle.tables_log.specs.Lsn.{end_lsn_of}
 use Rattle.copy_frames.specs.declared.frame.Frame.{Frame}
 use Rattle.copy_frames.specs.declared.status.Status.{Status}
 use Rattle.copy_both.specs.Events.{event_of}
@@ -33,7 +33,7 @@ quiet_event : (served : ServedFrom) (slot : ℕ) (e : Result Event LinkFault) (h
 quiet_event served slot (Err fault) h = refl
 quiet_event served slot (Ok (event.End kind)) h = refl
 quiet_event served slot (Ok (event.Status status)) h =
-    quiet_confirmed (nat_lt (min h.sent (end_after served.commits)) status.flushed) slot status h
+    quiet_confirmed (nat_lt (min h.sent (end_lsn_of served.commits)) status.flushed) slot status h
 
 quiet_next : (served : ServedFrom) (frame : Frame) (started : Option (ℕ × ℕ)) (h : HearingOf)
     → IsQuiet h (next_heard served frame started h)

@@ -1,7 +1,7 @@
 -- A start that is refused is answered with one ErrorResponse.
 use Rattle.std.proofs.Common.{◌≡◌, ℕ, ◌==◌, Bool, true, false, if◌then◌else◌, List, [], ◌∷◌, refl, sym, ap, subst, ◌∙◌}
 use Rattle.std.specs.Prelude.{Option, Some, None, Result, Ok, Err, IfErr, IsErrAnd, min, nat_lt}
-use Rattle.tables_log.specs.Slots.{end_after}
+use Rattle.tables_log.specs.Lsn.{end_lsn_of}
 use Rattle.copy_frames.specs.declared.frame.Frame.{Frame}
 use Rattle.copy_frames.specs.declared.status.Status.{Status}
 use Rattle.copy_both.specs.Ears.{IsResponse, IsAnsweredBy}
@@ -43,7 +43,7 @@ module _ (h : HearingOf) (state : SqlState) (good : h.fault ≡ None) where
       absurd (event_fault frame (fault.BadStart state) (of ∙ ap Err same))
   event_refused served slot frame (Ok (event.End kind)) of is = absurd (not_refused h.fault state good is)
   event_refused served slot frame (Ok (event.Status status)) of is =
-      confirmed_refused (nat_lt (min h.sent (end_after served.commits)) status.flushed) slot status is
+      confirmed_refused (nat_lt (min h.sent (end_lsn_of served.commits)) status.flushed) slot status is
 
   if_refused : (b : Bool) (one other : HearingOf) → Refused state h one → Refused state h other
       → Refused state h (if b then one else other)

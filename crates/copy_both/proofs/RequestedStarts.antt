@@ -1,7 +1,8 @@
 -- A stream that starts after the position up to which its slot was confirmed starts at the requested position.
 use Rattle.std.proofs.Common.{◌≡◌, ℕ, ◌<◌, ◌==◌, max, false, if◌then◌else◌, List, [], ◌∷◌, ◌++◌, refl, sym, ap, subst, ◌∙◌, arith}
 use Rattle.std.specs.Prelude.{Option, Some, None}
-use Rattle.tables_log.specs.Slots.{confirmed_at, end_after, start_fault}
+use Rattle.tables_log.specs.Lsn.{end_lsn_of}
+use Rattle.tables_log.specs.Slots.{confirmed_at, start_fault}
 use Rattle.tables_log.specs.declared.error.StartError.{StartError}
 use Rattle.tables_log.specs.declared.slots.Slot.{Slot}
 use Rattle.copy_frames.specs.declared.frame.Frame.{Frame}
@@ -34,7 +35,7 @@ module _ (served : ServedFrom) (slots : List Slot) (slot start : ℕ) (late : co
   by_asked : (asked : StartAnswerOf) → begin_by served slots asked ≡ Begins slot start → asked ≡ Stream slot start
   by_asked (Refused refusal) is = absurd cc
   by_asked (Stream one position) is =
-      by_fault (start_fault slots (end_after served.commits) one position) one position
+      by_fault (start_fault slots (end_lsn_of served.commits) one position) one position
       (slot_name served.checked.catalog.subscriptions one) is
 
   by_frame : (frame : Frame) (frames : List Frame)

@@ -9,7 +9,8 @@ use Rattle.pub_catalog.specs.CatalogView.{catalog_view, publication_view}
 use Rattle.pub_catalog.specs.declared.catalog.Catalog.{Catalog}
 use Rattle.pub_catalog.specs.declared.catalog.Publication.{Publication}
 use Rattle.pub_catalog.specs.declared.catalog.Subscription.{Subscription}
-use Rattle.tables_log.specs.Slots.{end_after, confirmed_at, start_fault, started}
+use Rattle.tables_log.specs.Lsn.{end_lsn_of}
+use Rattle.tables_log.specs.Slots.{confirmed_at, start_fault, started}
 use Rattle.tables_log.specs.declared.error.StartError.{StartError}
 use Rattle.tables_log.specs.declared.error.StartError.TheVariants as error
 use Rattle.tables_log.specs.declared.slots.Slot.{Slot}
@@ -38,7 +39,7 @@ offer publications subscriptions end =
 pub offer_is : (catalog : Catalog) (served : ServedFrom) (publications : List Publication)
     (subscriptions : List Subscription) (end : ℕ)
     → publications ≡ catalog.publications.items → subscriptions ≡ catalog.subscriptions.items
-    → end ≡ end_after served.commits → catalog_view catalog ≡ served.checked.catalog
+    → end ≡ end_lsn_of served.commits → catalog_view catalog ≡ served.checked.catalog
     → offer (map (λ (p : Publication). p.name) publications) subscriptions end ≡ offer_in served
 offer_is catalog served publications subscriptions end of_publications of_subscriptions of_end shown =
     let names : map (λ (p : Publication). p.name) publications
@@ -84,7 +85,7 @@ stream_of (Stream s p) slot position is =
 begins_by : (served : ServedFrom) (slots : List Slot) (kind : ℕ) (body : List ℕ) (slot position : ℕ)
     (fault : Option StartError)
     → code.Stream slot position ≡ start_reported (asked_of (offer_in served) kind body)
-    → start_fault slots (end_after served.commits) slot position ≡ fault
+    → start_fault slots (end_lsn_of served.commits) slot position ≡ fault
     → begin_of served slots kind body
     ≡ unless_fault fault slot (max position (confirmed_at slots slot))
     (slot_name served.checked.catalog.subscriptions slot)
@@ -101,7 +102,7 @@ sent_stream asked slot position old is = ap (sent_after old) (stream_of asked sl
 pub taken_begin : (served : ServedFrom) (slots after : List Slot) (kind : ℕ) (body : List ℕ) (slot position start : ℕ)
     (old new : List ℕ)
     → code.Stream slot position ≡ start_reported (asked_of (offer_in served) kind body)
-    → start_fault slots (end_after served.commits) slot position ≡ None
+    → start_fault slots (end_lsn_of served.commits) slot position ≡ None
     → start ≡ max position (confirmed_at slots slot) → after ≡ started slots slot
     → new ≡ sent_after old (asked_of (offer_in served) kind body)
     → TakesSlot (begin_of served slots kind body) slots after old new (slot, start)
@@ -115,7 +116,7 @@ taken_begin served slots after kind body slot position start old new is none at 
 pub refused_start : (served : ServedFrom) (slots after : List Slot) (kind : ℕ) (body : List ℕ) (slot position : ℕ)
     (error : StartError) (state : SqlState) (old middle new : List ℕ)
     → code.Stream slot position ≡ start_reported (asked_of (offer_in served) kind body)
-    → start_fault slots (end_after served.commits) slot position ≡ Some error
+    → start_fault slots (end_lsn_of served.commits) slot position ≡ Some error
     → after ≡ slots → middle ≡ sent_after old (asked_of (offer_in served) kind body)
     → state ≡ state_of (book_refusal (slot_name served.checked.catalog.subscriptions slot) error)
     → new ≡ middle ++ error_response (book_refusal (slot_name served.checked.catalog.subscriptions slot) error)

@@ -1,7 +1,7 @@
 -- The start that is reported for a piece is that of the stream that it started.
 use Rattle.std.proofs.Common.{◌≡◌, ℕ, ◌==◌, Bool, true, false, if◌then◌else◌, List, [], ◌∷◌, refl, sym, ap, subst, ◌∙◌}
 use Rattle.std.specs.Prelude.{Option, Some, None, Result, Ok, Err, min, nat_lt}
-use Rattle.tables_log.specs.Slots.{end_after}
+use Rattle.tables_log.specs.Lsn.{end_lsn_of}
 use Rattle.copy_frames.specs.declared.fault.FrameFault.{FrameFault}
 use Rattle.copy_frames.specs.declared.frame.Frame.{Frame}
 use Rattle.copy_frames.specs.declared.status.Status.{Status}
@@ -28,7 +28,7 @@ event_reported : (served : ServedFrom) (slot : ℕ) (e : Result Event LinkFault)
 event_reported served slot (Err fault) h = refl
 event_reported served slot (Ok (event.End kind)) h = refl
 event_reported served slot (Ok (event.Status status)) h =
-    confirmed_reported (nat_lt (min h.sent (end_after served.commits)) status.flushed) slot status h
+    confirmed_reported (nat_lt (min h.sent (end_lsn_of served.commits)) status.flushed) slot status h
 
 over_reported : (over : Bool) (h next : HearingOf) → next.heard.started ≡ h.heard.started
     → (unless_over over h next).heard.started ≡ h.heard.started

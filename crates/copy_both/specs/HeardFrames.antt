@@ -5,7 +5,8 @@ use Rattle.std.specs.Prelude.{◌≡◌, ◌<◌, ◌⊎◌, ℕ, ◌==◌, min,
 use Rattle.filter_tree.specs.Memory.{Answers}
 use Rattle.shard_checker.specs.CheckedView.{CheckedOf}
 use Rattle.tables_log.specs.BookView.{book_checked, book_log, book_slots}
-use Rattle.tables_log.specs.Slots.{confirmed_at, end_after}
+use Rattle.tables_log.specs.Lsn.{end_lsn_of}
+use Rattle.tables_log.specs.Slots.{confirmed_at}
 use Rattle.tables_log.specs.StandsFor.{Transaction, StandsFor}
 use Rattle.tables_log.specs.declared.book.Book.{Book}
 use Rattle.copy_frames.specs.Contents.{status_in}
@@ -165,7 +166,7 @@ sent_then None sent (Some started) = first_sent started.1
 
 abbrev pub reach_of : Ear → Ear → Book → ℕ → ℕ
 reach_of old new book sent =
-    min (sent_then (ear_started old) sent (ear_started new)) (end_after (length (book_log book)))
+    min (sent_then (ear_started old) sent (ear_started new)) (end_lsn_of (length (book_log book)))
 
 -- ---- a piece
 

@@ -3,7 +3,8 @@
 use Rattle.std.specs.Prelude.{ℕ, ◌+◌, ◌^◌, ◌-◌, ◌==◌, min, max, nat_lt, Bool, true, false, if◌then◌else◌, List, [], ◌∷◌, ◌++◌, map, Option, Some, None, Result, Ok, Err}
 use Rattle.shard_checker.specs.CheckedView.{CheckedOf}
 use Rattle.tables_log.specs.Slots as slots
-use Rattle.tables_log.specs.Slots.{end_after, confirmed_at, start_fault, confirmed_up_to}
+use Rattle.tables_log.specs.Lsn.{end_lsn_of}
+use Rattle.tables_log.specs.Slots.{confirmed_at, start_fault, confirmed_up_to}
 use Rattle.tables_log.specs.declared.error.StartError.{StartError}
 use Rattle.tables_log.specs.declared.slots.Slot.{Slot}
 use Rattle.copy_frames.specs.declared.fault.FrameFault.{FrameFault}
@@ -57,7 +58,7 @@ abbrev pub offer_in : ServedFrom → OfferOf
 offer_in served = record {
   publications = map (λ p. p.name) served.checked.catalog.publications;
   subscriptions = served.checked.catalog.subscriptions;
-  log_end = end_after served.commits;
+  log_end = end_lsn_of served.commits;
   in_use = [];
 }
 
@@ -73,7 +74,7 @@ unless_fault (Some error) slot start name = Refuses (book_refusal name error)
 abbrev pub begin_by : ServedFrom → List Slot → StartAnswerOf → BeginOf
 begin_by served slots (Refused refusal) = Refuses refusal
 begin_by served slots (Stream slot position) =
-    unless_fault (start_fault slots (end_after served.commits) slot position) slot
+    unless_fault (start_fault slots (end_lsn_of served.commits) slot position) slot
     (max position (confirmed_at slots slot))
     (slot_name served.checked.catalog.subscriptions slot)
 
@@ -111,7 +112,7 @@ confirmed_by false slot status h = record h {
 
 abbrev pub status_heard : ServedFrom → ℕ → Status → HearingOf → HearingOf
 status_heard served slot status h =
-    confirmed_by (nat_lt (min h.sent (end_after served.commits)) status.flushed) slot status h
+    confirmed_by (nat_lt (min h.sent (end_lsn_of served.commits)) status.flushed) slot status h
 
 abbrev pub event_heard : ServedFrom → ℕ → Result Event LinkFault → HearingOf → HearingOf
 event_heard served slot (Err fault) h = with_fault fault h

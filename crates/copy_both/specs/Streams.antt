@@ -8,7 +8,6 @@ use Rattle.copy_frames.specs.Frames.{framed}
 use Rattle.copy_frames.specs.declared.frame.Frame.{Frame}
 use Rattle.copy_frames.specs.declared.keepalive.Keepalive.{Keepalive}
 use Rattle.copy_frames.specs.declared.xlog_data.XLogData.{XLogData}
-pub use Rattle.tables_log.specs.Lsn.{commits_before as count_before}
 use Rattle.pgoutput_msgs.specs.Spelling.{spelling_of}
 use Rattle.pgoutput_msgs.specs.declared.message.Msg.{Msg}
 

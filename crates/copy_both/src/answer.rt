@@ -17,12 +17,13 @@ use crate::start_command::StartCommand;
 use crate::start_order::{Offer, find_slot, publications_at, slot_refusal};
 use bytes::BytesMut;
 use std::alloc::{AllocError, Global};
+use tables_log::{Lsn, SlotNumber};
 
 /// What a client requests by its first frame.
 #[derive(Clone, Copy, Debug, PartialEq, Eq)]
 pub enum StartAnswer {
-    /// A stream from the slot of the subscription with this number, from this position on, in bytes.
-    Stream { slot: usize, position: u64 },
+    /// A stream from the slot of the subscription with this number, from this position on.
+    Stream { slot: SlotNumber, position: Lsn },
     /// A start that is refused with an error of this kind.
     Refused(SqlState),
 }
@@ -71,7 +72,7 @@ fn refuse(response: &mut BytesMut, refusal: &Refusal<'_>) -> Result<StartAnswer,
 fn answer_slot(
     offer: &Offer<'_>,
     command: &StartCommand,
-    slot: usize,
+    slot: SlotNumber,
     response: &mut BytesMut,
 ) -> Result<StartAnswer, AllocError>
     requires { IsShortCommand command.now }

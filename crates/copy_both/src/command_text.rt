@@ -12,6 +12,7 @@ use crate::token::{Token, is_close, is_keyword, name_in, position_in};
 use crate::tokens::tokens_of;
 use filter_tree::{Items, Text};
 use std::alloc::{AllocError, Global};
+use tables_log::Lsn;
 
 fn named_option(
     alloc: Global,
@@ -107,7 +108,7 @@ fn options_in(alloc: Global, tokens: &[Token]) -> Result<Option<Items<StartOptio
 fn command_with(
     alloc: Global,
     slot: Option<&str>,
-    position: Option<u64>,
+    position: Option<Lsn>,
     options: Option<Items<StartOption>>,
 ) -> Result<Option<StartCommand>, AllocError>
     ensures { IfOk result (λ found. found ≡ spec.command_with (option_copied slot.entry) position options) }

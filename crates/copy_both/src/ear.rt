@@ -8,12 +8,13 @@ use crate::link_fault::LinkFault;
 use crate::listening::hear_piece;
 use crate::phase::{Phase, phase_after};
 use crate::session::Session;
+use crate::stream_start::StreamStart;
 use bytes::BytesMut;
 use copy_frames::Deframer;
 use shard_checker::Checked;
 use std::alloc::Global;
 use std::sync::Arc;
-use tables_log::Book;
+use tables_log::{Book, Lsn, SlotNumber};
 
 /// The greatest length of a frame, as the frame states it.
 const LIMIT: u32 = 65_536;
@@ -88,7 +89,7 @@ impl Ear {
         ensures refused { IfErr result (λ fault. IsAnsweredBy fault [] (ear_refusal self.new)) }
         ensures left { HearLeaves (ear_phase self.old) self.old self.new book.old book.new piece.now sent result }
     {
-        match self.listen(piece, book, sent) {
+        match self.listen(piece, book, Lsn::new(sent)) {
             Ok(hearing) => Ok(hearing.reported()),
             Err(fault) => Err(fault),
         }
@@ -99,7 +100,7 @@ impl Ear {
         &mut self,
         piece: &[u8],
         book: &mut Book,
-        sent: u64,
+        sent: Lsn,
     ) -> Result<Hearing, LinkFault>
         ensures answer { Answers (λ heard. heard) reported_fault
             (spec.hear_answer self.old book.old piece.now sent) (reported_result result) }
@@ -121,7 +122,17 @@ impl Ear {
 
     /// The slot whose stream was started, by the number of its subscription, and where in the log the stream starts, in
     /// bytes.
-    pub fn started(&self) -> Option<(usize, u64)>
+    pub fn started(&self) -> Option<(SlotNumber, u64)>
+        ensures { result ≡ ear_started self.now }
+    {
+        match self.session.started {
+            None => None,
+            Some(stream) => Some((stream.slot, stream.start.to_u64())),
+        }
+    }
+
+    /// The stream that was started.
+    pub fn stream(&self) -> Option<StreamStart>
         ensures { result ≡ ear_started self.now }
     {
         self.session.started
@@ -143,8 +154,8 @@ impl Ear {
             Phase::Open | Phase::Closed => {}
             Phase::Lost => return,
         }
-        if let Some((slot, _)) = self.session.started {
-            book.release(slot);
+        if let Some(stream) = self.session.started {
+            book.release(stream.slot);
         }
         self.phase = Phase::Lost;
     }

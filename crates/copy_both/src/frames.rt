@@ -5,7 +5,7 @@ ghost use Rattle.std.specs.Int.{to_be_bytes, w32};
 ghost use Rattle.copy_both.specs.Framing.{opening};
 
 use copy_frames::XLogData;
-use filter_tree::{Row, Table};
+use filter_tree::{Row, Table, TableNumber};
 use pgoutput_msgs::{
     MessageSink, Msg, begin_message, commit_message, encode, encode_delete, encode_insert,
     encode_truncate, encode_update, oid_of, put_byte, put_int32, put_int64, relation_of,
@@ -92,7 +92,7 @@ impl Frames {
     }
 
     /// Adds the frame of the Delete of a row of which something is recorded. The only error is out of memory.
-    fn add_gone(&mut self, table: usize, old: &OldPart) -> Result<(), AllocError>
+    fn add_gone(&mut self, table: TableNumber, old: &OldPart) -> Result<(), AllocError>
         requires recorded { named_in (r.Delete table (part_view old.now)) ≡ table ∷ [] }
         requires sendable { IsSendableChange (r.Delete table (part_view old.now)) }
         ensures { OnOk result (TakesEach AddsFrame self.old self.new
@@ -129,13 +129,13 @@ impl MessageSink for Frames {
 
     ghost takes_one = { AddsFrame };
 
-    fn relation(&mut self, number: usize, table: &Table) -> Result<(), AllocError> {
+    fn relation(&mut self, number: TableNumber, table: &Table) -> Result<(), AllocError> {
         let relation = relation_of(self.alloc, number, table)?;
         self.add(&Msg::Relation(relation))?;
         Ok(())
     }
 
-    fn insert(&mut self, table: usize, new: &Row) -> Result<(), AllocError> {
+    fn insert(&mut self, table: TableNumber, new: &Row) -> Result<(), AllocError> {
         let start = self.bytes.len();
         open_frame(&self.head, &mut self.bytes)?;
         encode_insert(oid_of(table), new, &mut self.bytes)?;
@@ -143,7 +143,7 @@ impl MessageSink for Frames {
         Ok(())
     }
 
-    fn update(&mut self, table: usize, old: &OldPart, new: &Row) -> Result<(), AllocError> {
+    fn update(&mut self, table: TableNumber, old: &OldPart, new: &Row) -> Result<(), AllocError> {
         let start = self.bytes.len();
         open_frame(&self.head, &mut self.bytes)?;
         encode_update(oid_of(table), old, new, &mut self.bytes)?;
@@ -151,14 +151,14 @@ impl MessageSink for Frames {
         Ok(())
     }
 
-    fn delete(&mut self, table: usize, old: &OldPart) -> Result<(), AllocError> {
+    fn delete(&mut self, table: TableNumber, old: &OldPart) -> Result<(), AllocError> {
         match old {
             OldPart::None => Ok(()),
             OldPart::Key(_) | OldPart::Full(_) => Ok(self.add_gone(table, old)?),
         }
     }
 
-    fn truncate(&mut self, tables: &[usize]) -> Result<(), AllocError> {
+    fn truncate(&mut self, tables: &[TableNumber]) -> Result<(), AllocError> {
         let start = self.bytes.len();
         open_frame(&self.head, &mut self.bytes)?;
         encode_truncate(tables, &mut self.bytes)?;

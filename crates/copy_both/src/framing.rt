@@ -14,7 +14,7 @@ use pgoutput_msgs::tell_changes;
 use row_owners::{OwnerSet, count_of};
 use shard_checker::Checked;
 use std::alloc::{AllocError, Global};
-use tables_log::Commit;
+use tables_log::{Commit, SlotNumber};
 
 /// The frames of the messages that report a commit to the subscriber, each an XLogData with this head: those of
 /// `messages_of`. None if no change is for it. `owners` are the subscribers that get something from each of the first
@@ -23,7 +23,7 @@ use tables_log::Commit;
 pub(crate) fn commit_frames(
     alloc: Global,
     checked: &Checked,
-    slot: usize,
+    slot: SlotNumber,
     commit: &Commit,
     owners: &[OwnerSet],
     relation_sent: &mut [bool],

@@ -11,6 +11,7 @@ use crate::quoted::{QuotedText, after_first, first_byte, read_quoted};
 use crate::token::{Piece, Token};
 use filter_tree::Text;
 use std::alloc::{AllocError, Global};
+use tables_log::Lsn;
 
 fn is_letter(byte: u8) -> bool
     ensures { result ≡ spec.is_letter byte }
@@ -78,7 +79,7 @@ fn place_piece(length: usize, high: Option<u32>, low: Option<u32>) -> Piece
         return Piece::Bad;
     };
     let place = u64::from(high) * 0x1_0000_0000 + u64::from(low);
-    Piece::Whole(Token::Position(place), length)
+    Piece::Whole(Token::Position(Lsn::new(place)), length)
 }
 
 /// A place that is written by these digits, a slash, and the digits after it.

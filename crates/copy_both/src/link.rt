@@ -17,7 +17,7 @@ use crate::voice::{Stage, Voice};
 use shard_checker::Checked;
 use std::alloc::{AllocError, Global};
 use std::sync::Arc;
-use tables_log::{Book, Commit};
+use tables_log::{Book, Commit, Lsn, SlotNumber};
 
 /// The commit of a log after the first `done` ones.
 fn entry_after(book: &Book, done: u64) -> Option<&Commit>
@@ -96,7 +96,7 @@ impl Link {
         ensures says { HearSays self.old self.new (link_heard self.old book.old piece.now) now result }
         ensures refused { IfErr result (λ fault. IsAnsweredBy fault (link_output self.old) (link_output self.new)) }
     {
-        let sent = self.voice.sent().unwrap_or(0);
+        let sent = self.voice.sent().unwrap_or(Lsn::new(0));
         let heard = match self.ear.listen(piece, book, sent) {
             Ok(heard) => heard,
             Err(LinkFault::BadStart(state)) => {
@@ -108,7 +108,7 @@ impl Link {
                 return Err(fault);
             }
         };
-        match answer_heard(&mut self.voice, self.ear.started(), &heard, now) {
+        match answer_heard(&mut self.voice, self.ear.stream(), &heard, now) {
             Ok(()) => Ok(heard.reported()),
             Err(fault) => {
                 self.ear.close();
@@ -222,7 +222,7 @@ impl Link {
 
     /// The slot whose stream was started, by the number of its subscription, and where in the log the stream starts, in
     /// bytes.
-    pub fn started(&self) -> Option<(usize, u64)>
+    pub fn started(&self) -> Option<(SlotNumber, u64)>
         ensures shows { result ≡ ear_started (link_ear self.now) }
         ensures together { heard_state (ear_phase (link_ear self.now)) (ear_started (link_ear self.now))
             ≡ said_state (link_stage self.now) }
@@ -230,9 +230,9 @@ impl Link {
         self.ear.started()
     }
 
-    /// The sent position, in bytes, while the stream runs: where the last commit that was taken ends; if none was,
+    /// The sent position while the stream runs: where the last commit that was taken ends; if none was,
     /// where the stream started, which is 64 for a start at 0.
-    pub fn sent(&self) -> Option<u64>
+    pub fn sent(&self) -> Option<Lsn>
         ensures { result ≡ sent_of (link_stage self.now) }
     {
         self.voice.sent()

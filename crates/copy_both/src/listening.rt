@@ -12,7 +12,7 @@ use crate::hearing::Hearing;
 use crate::link_fault::LinkFault;
 use crate::session::Session;
 use copy_frames::{Deframer, FrameFault};
-use tables_log::Book;
+use tables_log::{Book, Lsn};
 
 /// Hears the frames that are held, up to a fault or an end.
 fn hear_frames(
@@ -43,7 +43,7 @@ pub(crate) fn hear_piece(
     session: &mut Session,
     piece: &[u8],
     book: &mut Book,
-    sent: u64,
+    sent: Lsn,
 ) -> Result<Hearing, LinkFault>
     requires { frames.old.fault ≡ None }
     ensures answer { Answers (λ heard. heard) reported_fault

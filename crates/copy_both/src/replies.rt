@@ -11,10 +11,11 @@ ghost use Rattle.copy_both.specs.declared.link_fault.LinkFault.TheVariants.{OutO
 
 use crate::hearing::Hearing;
 use crate::link_fault::LinkFault;
+use crate::stream_start::StreamStart;
 use crate::voice::Voice;
 
 /// Starts the stream if one was started.
-fn open(voice: &mut Voice, started: Option<(usize, u64)>) -> Result<(), LinkFault>
+fn open(voice: &mut Voice, started: Option<StreamStart>) -> Result<(), LinkFault>
     requires { voice_stage voice.old ≢ voices.Closed }
     ensures ok { OnOk result (Sends voice.old voice.new (spec.opening (voice_stage voice.old) started)
         (spec.begun_stage (voice_checked voice.old) (voice_stage voice.old) started)) }
@@ -22,7 +23,7 @@ fn open(voice: &mut Voice, started: Option<(usize, u64)>) -> Result<(), LinkFaul
     ensures memory { IfErr result (λ fault. fault ≡ OutOfMemory) }
 {
     match started {
-        Some((slot, start)) if voice.sent().is_none() => voice.start(slot, start),
+        Some(stream) if voice.sent().is_none() => voice.start(stream.slot, stream.start.to_u64()),
         Some(_) | None => Ok(()),
     }
 }
@@ -63,7 +64,7 @@ fn end(voice: &mut Voice, ended: Option<u8>) -> Result<(), LinkFault>
 /// frames were sent, and the voice is closed.
 pub(crate) fn answer_heard(
     voice: &mut Voice,
-    started: Option<(usize, u64)>,
+    started: Option<StreamStart>,
     heard: &Hearing,
     now: u64,
 ) -> Result<(), LinkFault>

@@ -2,7 +2,7 @@
 
 ghost use Rattle.std.specs.Prelude.{◌≡◌, ◌+◌, ◌<◌, ◌≤◌, ◌^◌, ◌++◌, length, IfOk, OnOk, OnErr};
 ghost use Rattle.tables_log.specs.BookView.{book_log, book_slots};
-ghost use Rattle.tables_log.specs.Slots.{end_after};
+ghost use Rattle.tables_log.specs.Lsn.{end_lsn_of};
 ghost use Rattle.copy_both.specs.Events.{event_of};
 ghost use Rattle.copy_both.specs.Hearing as spec;
 ghost use Rattle.copy_both.specs.Refusals.{error_response, state_of};
@@ -16,21 +16,22 @@ use crate::hearing::Hearing;
 use crate::link_fault::LinkFault;
 use crate::sql_state::SqlState;
 use crate::start_order::{Offer, book_refusal};
+use crate::stream_start::StreamStart;
 use crate::stream_state::first_sent;
 use bytes::BytesMut;
 use copy_frames::{Frame, Status};
 use shard_checker::Checked;
 use std::alloc::{AllocError, Global};
 use std::sync::Arc;
-use tables_log::{Book, Lsn, StartError};
+use tables_log::{Book, Lsn, SlotNumber, StartError};
 
-/// What was agreed with a client: the slot that streams and where in the log the stream starts, in bytes, or the
+/// What was agreed with a client: the slot that streams and where in the log the stream starts, or the
 /// response to a start that was refused.
 #[derive(Drop)]
 pub(crate) struct Session {
     pub(crate) alloc: Global,
     pub(crate) checked: Arc<Checked, Global>,
-    pub(crate) started: Option<(usize, u64)>,
+    pub(crate) started: Option<StreamStart>,
     pub(crate) response: BytesMut,
 }
 
@@ -52,7 +53,7 @@ impl Session {
     {
         match self.started {
             None => self.hear_first(frame, book, hearing),
-            Some((slot, _)) => self.hear_next(slot, frame, book, hearing),
+            Some(stream) => self.hear_next(stream.slot, frame, book, hearing),
         }
     }
 
@@ -73,15 +74,15 @@ impl Session {
             hearing.ended = Some(b'X');
             return Ok(());
         }
-        let (slot, start) = self.begin(frame, book)?;
-        self.started = Some((slot, start));
-        hearing.started = Some(start);
-        hearing.sent = first_sent(start);
+        let stream = self.begin(frame, book)?;
+        self.started = Some(stream);
+        hearing.started = Some(stream.start);
+        hearing.sent = first_sent(stream.start);
         Ok(())
     }
 
     /// Acquires the slot that the frame requests; returns the slot and where its stream starts.
-    fn begin(&mut self, frame: &Frame, book: &mut Book) -> Result<(usize, u64), LinkFault>
+    fn begin(&mut self, frame: &Frame, book: &mut Book) -> Result<StreamStart, LinkFault>
         ensures kept { KeepsRest self.old self.new book.old book.new }
         ensures started { self.new.started ≡ self.old.started }
         ensures begun { Begins (begin_in self.old book.old frame.now) (book_slots book.old) (book_slots book.new)
@@ -89,15 +90,18 @@ impl Session {
     {
         match self.ask(frame, book)? {
             StartAnswer::Refused(state) => Err(LinkFault::BadStart(state)),
-            StartAnswer::Stream { slot, position } => match book.start(slot, position) {
-                Ok(start) => Ok((slot, start)),
+            StartAnswer::Stream { slot, position } => match book.start(slot, position.to_u64()) {
+                Ok(start) => Ok(StreamStart {
+                    slot,
+                    start: Lsn::new(start),
+                }),
                 Err(error) => Err(LinkFault::BadStart(self.refuse(slot, error)?)),
             },
         }
     }
 
     /// Adds the response to a start that the book refuses. The only error is out of memory.
-    fn refuse(&mut self, slot: usize, error: StartError) -> Result<SqlState, AllocError>
+    fn refuse(&mut self, slot: SlotNumber, error: StartError) -> Result<SqlState, AllocError>
         ensures kept { IsSameSession self.old self.new }
         ensures state { IfOk result (λ state. state ≡ state_of (refused_by_book self.old slot error)) }
         ensures ok { OnOk result (self.new.response.items
@@ -137,7 +141,7 @@ impl Session {
     /// Hears a frame while the stream of this slot runs.
     fn hear_next(
         &self,
-        slot: usize,
+        slot: SlotNumber,
         frame: &Frame,
         book: &mut Book,
         hearing: &mut Hearing,
@@ -162,7 +166,7 @@ impl Session {
     /// Confirms what a status reports as flushed.
     fn hear_status(
         &self,
-        slot: usize,
+        slot: SlotNumber,
         status: &Status,
         book: &mut Book,
         hearing: &mut Hearing,
@@ -176,7 +180,7 @@ impl Session {
             (hearing_view self.now hearing.old book.old) (hearing_view self.now hearing.new book.new) result }
     {
         let sent = hearing.sent.min(end_of(book));
-        if book.confirm(slot, status.flushed, sent).is_err() {
+        if book.confirm(slot, status.flushed, sent.to_u64()).is_err() {
             return Err(LinkFault::StatusAhead);
         }
         if status.wants_reply {
@@ -186,9 +190,9 @@ impl Session {
     }
 }
 
-/// Where the log ends, in bytes.
-fn end_of(book: &Book) -> u64
-    ensures { result ≡ end_after (length (book_log book.now)) }
+/// Where the log ends.
+fn end_of(book: &Book) -> Lsn
+    ensures { result ≡ end_lsn_of (length (book_log book.now)) }
 {
-    Lsn::end_of_commit(book.log_len()).to_u64()
+    Lsn::end_of_commit(book.log_len())
 }

@@ -1,13 +1,14 @@
 //! The command that starts a stream.
 
 use filter_tree::{Items, Text};
+use tables_log::Lsn;
 
 /// What a START_REPLICATION command for a logical slot requests ("55.4. Streaming Replication Protocol").
 #[derive(Debug, Drop)]
 pub struct StartCommand {
     pub slot: Text,
-    /// A place in the log, in bytes: the commits from there on are requested.
-    pub position: u64,
+    /// A place in the log: the commits from there on are requested.
+    pub position: Lsn,
     pub options: Items<StartOption>,
 }
 

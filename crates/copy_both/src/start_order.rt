@@ -12,7 +12,7 @@ use crate::refusal::Refusal;
 use crate::start_command::{OptionValue, StartCommand, StartOption};
 use filter_tree::Text;
 use pub_catalog::{Publication, Subscription};
-use tables_log::StartError;
+use tables_log::{Lsn, SlotNumber, StartError};
 
 fn is_wrong(value: &OptionValue) -> bool
     ensures { result ≡ spec.is_wrong value.now }
@@ -200,19 +200,19 @@ fn same_publications(publications: &[Publication], names: &[Text], numbers: &[us
 }
 
 /// Whether a connection streams from the slot.
-fn is_taken(in_use: &[bool], slot: usize) -> bool
+fn is_taken(in_use: &[bool], slot: SlotNumber) -> bool
     ensures { result ≡ spec.is_in_use in_use.now slot }
 {
     in_use.get(slot).copied().unwrap_or(false)
 }
 
-/// What a start is checked against: the publications and the subscriptions of the catalog, where the log ends, in
-/// bytes, and for each subscription's slot whether a connection streams from it.
+/// What a start is checked against: the publications and the subscriptions of the catalog, where the log ends,
+/// and for each subscription's slot whether a connection streams from it.
 #[derive(Clone, Copy)]
 pub struct Offer<'a> {
     pub publications: &'a [Publication],
     pub subscriptions: &'a [Subscription],
-    pub log_end: u64,
+    pub log_end: Lsn,
     pub in_use: &'a [bool],
 }
 
@@ -220,7 +220,7 @@ pub struct Offer<'a> {
 pub fn slot_refusal<'a>(
     offer: &Offer<'_>,
     command: &'a StartCommand,
-    slot: usize,
+    slot: SlotNumber,
     taken: &[usize],
 ) -> Option<Refusal<'a>>
     ensures { option_map refusal_view result
@@ -240,7 +240,7 @@ pub fn slot_refusal<'a>(
     if !same_publications(offer.publications, names, taken) {
         return Some(Refusal::OtherPublications(command.slot.as_str()));
     }
-    if offer.log_end < command.position {
+    if command.position.is_after(offer.log_end) {
         return Some(Refusal::Ahead);
     }
     if is_taken(offer.in_use, slot) {
@@ -250,7 +250,7 @@ pub fn slot_refusal<'a>(
 }
 
 /// The number of the subscription that has the slot of this name.
-pub fn find_slot(subscriptions: &[Subscription], name: &str) -> Option<usize>
+pub fn find_slot(subscriptions: &[Subscription], name: &str) -> Option<SlotNumber>
     ensures { result ≡ spec.find_slot name.now subscriptions.now }
 {
     subscriptions
@@ -259,7 +259,7 @@ pub fn find_slot(subscriptions: &[Subscription], name: &str) -> Option<usize>
 }
 
 /// The numbers of the publications that the subscription of this slot takes; none if there is no such subscription.
-pub fn publications_at(subscriptions: &[Subscription], slot: usize) -> &[usize]
+pub fn publications_at(subscriptions: &[Subscription], slot: SlotNumber) -> &[usize]
     ensures { result.now ≡ spec.publications_at subscriptions.now slot }
 {
     match subscriptions.get(slot) {
@@ -271,7 +271,7 @@ pub fn publications_at(subscriptions: &[Subscription], slot: usize) -> &[usize]
 fn refusal_at<'a>(
     offer: &Offer<'_>,
     command: &'a StartCommand,
-    found: Option<usize>,
+    found: Option<SlotNumber>,
 ) -> Option<Refusal<'a>>
     ensures { option_map refusal_view result ≡ spec.refusal_at (spec.offer_view offer.now) command.now found }
 {
@@ -294,7 +294,7 @@ pub fn start_refusal<'a>(offer: &Offer<'_>, command: &'a StartCommand) -> Option
 }
 
 /// The name of the slot of this number; empty if there is none.
-fn slot_name(subscriptions: &[Subscription], slot: usize) -> &str
+fn slot_name(subscriptions: &[Subscription], slot: SlotNumber) -> &str
     ensures { result.now ≡ spec.slot_name subscriptions.now slot }
 {
     match subscriptions.get(slot) {
@@ -306,7 +306,7 @@ fn slot_name(subscriptions: &[Subscription], slot: usize) -> &str
 /// Why a start from this slot is refused, when the book refuses it with this error.
 pub(crate) fn book_refusal(
     subscriptions: &[Subscription],
-    slot: usize,
+    slot: SlotNumber,
     error: StartError,
 ) -> Refusal<'_>
     ensures { refusal_view result ≡ spec.book_refusal (spec.slot_name subscriptions.now slot) error }

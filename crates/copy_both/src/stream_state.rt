@@ -10,15 +10,15 @@ use copy_frames::XLogData;
 use row_owners::OwnerSet;
 use shard_checker::Checked;
 use std::alloc::{AllocError, Global};
-use tables_log::{Commit, Lsn};
+use tables_log::{Commit, CommitNumber, Lsn, SlotNumber};
 
 /// The sent position of a stream that starts at this position and has sent nothing: this one, or where the log begins
 /// if it is 0.
-pub fn first_sent(start: u64) -> u64
+pub fn first_sent(start: Lsn) -> Lsn
     ensures { result ≡ spec.first_sent start }
 {
-    if start == 0 {
-        return Lsn::of_commit(1).to_u64();
+    if start.to_u64() == 0 {
+        return Lsn::of_commit(1);
     }
     start
 }
@@ -27,7 +27,7 @@ pub fn first_sent(start: u64) -> u64
 /// sent, and the sent position.
 #[derive(Drop)]
 pub(crate) struct StreamState {
-    pub(crate) slot: usize,
+    pub(crate) slot: SlotNumber,
     pub(crate) done: u64,
     pub(crate) relation_sent: Vec<bool>,
     pub(crate) sent: Lsn,
@@ -46,18 +46,18 @@ impl StreamState {
     /// A stream that starts at the position. No Relation of the `tables` tables was sent.
     pub(crate) fn new(
         alloc: Global,
-        slot: usize,
+        slot: SlotNumber,
         tables: usize,
-        position: u64,
+        position: Lsn,
     ) -> Result<StreamState, AllocError>
         ensures { IfOk result (λ state. state_view state ≡ state_at slot tables position) }
     {
         let relation_sent = vec![in alloc; false; tables]?;
         Ok(StreamState {
             slot,
-            done: Lsn::new(position).commits_before(),
+            done: position.commits_before(),
             relation_sent,
-            sent: Lsn::new(first_sent(position)),
+            sent: first_sent(position),
         })
     }
 
@@ -112,7 +112,7 @@ impl StreamState {
     }
 
     /// Passes the commit of the next number, of which nothing is sent.
-    pub(crate) fn skip(&mut self, number: u32)
+    pub(crate) fn skip(&mut self, number: CommitNumber)
         requires { number ≡ self.old.done + 1 }
         ensures { state_view self.new ≡ state_past (state_view self.old) number }
     {

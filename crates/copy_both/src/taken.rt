@@ -1,5 +1,7 @@
 //! The result of taking the next commit.
 
+use tables_log::CommitNumber;
+
 /// The result of taking the next commit of the log on a connection.
 #[derive(Clone, Copy, Debug, PartialEq, Eq)]
 pub enum Taken {
@@ -8,7 +10,7 @@ pub enum Taken {
     /// The log has no further commit.
     Idle,
     /// The commit of this number has no change for the subscriber.
-    Skipped(u32),
+    Skipped(CommitNumber),
     /// The messages of the commit of this number are in the output.
-    Sent(u32),
+    Sent(CommitNumber),
 }

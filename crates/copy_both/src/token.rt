@@ -5,6 +5,7 @@ ghost use Rattle.std.specs.Option.{option_copied};
 ghost use Rattle.copy_both.specs.CommandTokens as spec;
 
 use filter_tree::Text;
+use tables_log::Lsn;
 
 /// A token of a replication command, or of a list of names.
 #[derive(Debug, Drop)]
@@ -15,8 +16,8 @@ pub enum Token {
     QuotedName(Text),
     /// What a string between single quotes means.
     Value(Text),
-    /// A place in the log, in bytes.
-    Position(u64),
+    /// A place in the log.
+    Position(Lsn),
     /// `(`
     Open,
     /// `)`
@@ -87,7 +88,7 @@ pub fn name_in(token: &Token) -> Option<&str>
 }
 
 /// The place that a token is.
-pub fn position_in(token: &Token) -> Option<u64>
+pub fn position_in(token: &Token) -> Option<Lsn>
     ensures { result ≡ spec.token_position token.now }
 {
     match token {

@@ -9,7 +9,7 @@ use row_owners::OwnerSet;
 use shard_checker::Checked;
 use std::alloc::{AllocError, Global};
 use std::sync::Arc;
-use tables_log::{Book, Commit, Routed};
+use tables_log::{Book, Commit, Lsn, Routed, SlotNumber};
 
 /// The state of a voice.
 #[derive(Drop)]
@@ -69,21 +69,21 @@ impl Voice {
     /// # Errors
     ///
     /// `Closed` if it was started before; `OutOfMemory` only if it was not. Each closes it.
-    pub fn start(&mut self, slot: usize, position: u64) -> Result<(), LinkFault>
+    pub fn start(&mut self, slot: SlotNumber, position: u64) -> Result<(), LinkFault>
         ensures answer { Answers (λ done. done) reported_fault (spec.start_answer (voice_stage self.old)) result }
         ensures memory { NeedsMemoryOnlyIf OutOfMemory (voice_stage self.old ≡ spec.NotStarted) result }
         ensures ok { OnOk result (Sends self.old self.new copy_both_response
             (spec.first_stage (voice_checked self.old) slot position)) }
         ensures err { OnErr result (Closes self.old self.new) }
     {
-        let started = self.begin(slot, position);
+        let started = self.begin(slot, Lsn::new(position));
         if started.is_err() {
             self.close();
         }
         started
     }
 
-    fn begin(&mut self, slot: usize, position: u64) -> Result<(), LinkFault>
+    fn begin(&mut self, slot: SlotNumber, position: Lsn) -> Result<(), LinkFault>
         ensures answer { Answers (λ done. done) reported_fault (spec.start_answer (voice_stage self.old)) result }
         ensures memory { NeedsMemoryOnlyIf OutOfMemory (voice_stage self.old ≡ spec.NotStarted) result }
         ensures ok { OnOk result (Sends self.old self.new copy_both_response
@@ -348,14 +348,14 @@ impl Voice {
         }
     }
 
-    /// The sent position, in bytes, if the stream has started: where the last commit that was taken ends; if none was,
+    /// The sent position, if the stream has started: where the last commit that was taken ends; if none was,
     /// where the stream started, which is 64 for a start at 0.
-    pub fn sent(&self) -> Option<u64>
+    pub fn sent(&self) -> Option<Lsn>
         ensures { result ≡ spec.sent_of (voice_stage self.now) }
     {
         match &self.stage {
             Stage::NotStarted | Stage::Closed => None,
-            Stage::Started(state) => Some(state.sent.to_u64()),
+            Stage::Started(state) => Some(state.sent),
         }
     }
 

@@ -15,7 +15,7 @@ use Rattle.tables_log.specs.Committing.{IsNew, Commits, IsKept, ChangesSlots, Re
 use Rattle.tables_log.specs.Commits.{CommitOf}
 use Rattle.tables_log.specs.Logs.{entry_at}
 use Rattle.tables_log.specs.Routes.{gets_some}
-use Rattle.tables_log.specs.Slots.{end_after}
+use Rattle.tables_log.specs.Lsn.{end_lsn_of}
 use Rattle.tables_log.specs.StandsFor.{Transaction, AreAccepted, StandsFor, after}
 use Rattle.tables_log.specs.declared.book.Book.{Book}
 use Rattle.tables_log.specs.declared.error.CommitError.{CommitError}
@@ -32,8 +32,8 @@ use Rattle.publisher_desk.specs.declared.sight.HistoryView.{HistoryView}
 use Rattle.publisher_desk.specs.declared.connection_state.ConnectionState.{ConnectionState}
 
 sent_longer : (connections : List ConnectionState) (commits more : ℕ) → commits ≤ more
-    → All (λ (connection : ConnectionState). connection.sent ≤ end_after commits) connections
-    → All (λ (connection : ConnectionState). connection.sent ≤ end_after more) connections
+    → All (λ (connection : ConnectionState). connection.sent ≤ end_lsn_of commits) connections
+    → All (λ (connection : ConnectionState). connection.sent ≤ end_lsn_of more) connections
 sent_longer connections commits more longer sent place other low =
     let one = sent place other low in omega (arith, one)
 
@@ -61,8 +61,8 @@ new_held one checked book limit most total count idle connections history new sa
       };
       counted = ap length new.log ∙ sym none;
       slots = ap length all ∙ length-replicate count idle ∙ long;
-      sent = subst (All (λ (c : ConnectionState). c.sent ≤ end_after (length (book_log book)))) (sym all)
-          (All-replicate (λ (c : ConnectionState). c.sent ≤ end_after (length (book_log book))) count idle
+      sent = subst (All (λ (c : ConnectionState). c.sent ≤ end_lsn_of (length (book_log book)))) (sym all)
+          (All-replicate (λ (c : ConnectionState). c.sent ≤ end_lsn_of (length (book_log book))) count idle
           (omega (arith, unsent)));
       told = subst (IsHistoryOf book) (sym empty) (record { stands = stands; idle = refl });
     }
@@ -101,7 +101,7 @@ slots_held checked limit old new slots total connections history changes held = 
   };
   counted = ap length changes.log ∙ held.counted;
   slots = held.slots;
-  sent = subst (λ log. All (λ (c : ConnectionState). c.sent ≤ end_after (length log)) connections) (sym changes.log)
+  sent = subst (λ log. All (λ (c : ConnectionState). c.sent ≤ end_lsn_of (length log)) connections) (sym changes.log)
       held.sent;
   told = record {
     stands = slots_keep_it old new slots changes (transactions_of history.all) held.told.stands;

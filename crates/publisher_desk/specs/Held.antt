@@ -6,7 +6,7 @@ use Rattle.table_changes.specs.Commands.{Command}
 use Rattle.table_changes.specs.Tables.{no_rows}
 use Rattle.tables_log.specs.BookView.{book_checked, book_limit, book_log}
 use Rattle.tables_log.specs.Commits.{CommitOf}
-use Rattle.tables_log.specs.Slots.{end_after}
+use Rattle.tables_log.specs.Lsn.{end_lsn_of}
 use Rattle.tables_log.specs.StandsFor.{Transaction, AreAccepted, StandsFor, entries_from}
 use Rattle.tables_log.specs.declared.book.Book.{Book}
 use Rattle.publisher_desk.specs.Logged.{IsHistoryOf}
@@ -45,5 +45,5 @@ pub record IsHeldFor (checked : CheckedOf) (limit : ℕ) (book : Book) (total : 
   pub is : IsBookOf checked limit book
   pub counted : length (book_log book) ≡ total
   pub slots : length connections ≡ length checked.catalog.subscriptions
-  pub sent : AreSentUpTo (end_after (length (book_log book))) connections
+  pub sent : AreSentUpTo (end_lsn_of (length (book_log book))) connections
   pub told : IsHistoryOf book history

@@ -10,7 +10,7 @@ use Rattle.tables_log.specs.Commits.{CommitOf}
 use Rattle.tables_log.specs.Committing.{ChangesSlots}
 use Rattle.tables_log.specs.Logs.{entry_at}
 use Rattle.tables_log.specs.Routes.{ArePassed, IsRouted, commit_in, passed_over}
-use Rattle.tables_log.specs.Slots.{end_after}
+use Rattle.tables_log.specs.Lsn.{end_lsn_of}
 use Rattle.tables_log.specs.StandsFor.{Transaction, StandsFor}
 use Rattle.tables_log.specs.declared.book.Book.{Book}
 use Rattle.publisher_desk.specs.Held.{AreSentUpTo}
@@ -35,7 +35,7 @@ pub record IsLent {U A : Type 0} (did : U → U → Book → Book → List Conne
   pub transactions : List Transaction
   pub stands : StandsFor old transactions
   pub slots : ChangesSlots old new (book_slots new)
-  pub sent : AreSentUpTo (end_after (length (book_log old))) connections
+  pub sent : AreSentUpTo (end_lsn_of (length (book_log old))) connections
   pub does : did before after old new connections left answer
 
 -- A user was lent a book of the log that the seat has seen, of which its notes are.

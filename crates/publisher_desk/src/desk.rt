@@ -16,7 +16,7 @@ use crate::receipt::Receipt;
 use crate::seat::Seat;
 use crate::slot_task::SlotTask;
 use crate::step::SenderStep;
-use filter_tree::Row;
+use filter_tree::{Row, TableNumber};
 use row_owners::OwnerSet;
 use shard_checker::Checked;
 use std::alloc::{AllocError, Global};
@@ -24,7 +24,7 @@ use std::marker::Model;
 use std::sync::ledger::Share;
 use std::sync::{Arc, ledger};
 use table_changes::Command;
-use tables_log::{Book, CommitError, Lsn};
+use tables_log::{Book, CommitError, CommitNumber, Lsn, SlotNumber};
 
 /// A sender that is this many commits behind is woken at each multiple of this number. So no sender that waits is twice
 /// as many behind.
@@ -61,7 +61,7 @@ fn make_commit<P: Publishing>(
     mark: &mut Share<P>,
     commands: &[Command],
     time: u64,
-) -> Result<u32, CommitError>
+) -> Result<CommitNumber, CommitError>
     requires { 0 < mark.old.parts }
     ensures ok { IfOk result (λ number. Commits book.old book.new (map command_view commands.now) time number) }
     ensures refused { IfErr result (RefusedBy book.old (map command_view commands.now)) }
@@ -87,9 +87,9 @@ fn make_commit<P: Publishing>(
 fn look_up(
     alloc: Global,
     book: &Book,
-    table: usize,
+    table: TableNumber,
     key: &Row,
-) -> Result<(u32, Option<Row>), AllocError>
+) -> Result<(CommitNumber, Option<Row>), AllocError>
     ensures number { IfOk result (λ found. found.0 ≡ length (book_log book.now)) }
     ensures row { IfOk result (λ found. found.1 ≡ book_rows book.now table 0 key.now) }
 {
@@ -98,23 +98,23 @@ fn look_up(
 }
 
 /// The number of a commit, where some log may have one of this number.
-fn commit_number(number: u64) -> Option<u32>
+fn commit_number(number: u64) -> Option<CommitNumber>
     ensures is { IfSome result (λ found. found ≡ number) }
     ensures some { IfSome result (λ found. 1 ≤ found) }
 {
     if number == 0 {
         return None;
     }
-    u32::try_from(number).ok()
+    CommitNumber::try_from(number).ok()
 }
 
 /// The next step of the slot's sender, which has sent all commits before this number, and the number of the last commit
 /// in it; none at the log's end. It fails only if memory is refused or an entry is shared too often.
 fn next_commits(
     book: &Book,
-    slot: usize,
-    number: u32,
-) -> Result<Option<(SenderStep, u32)>, AllocError>
+    slot: SlotNumber,
+    number: CommitNumber,
+) -> Result<Option<(SenderStep, CommitNumber)>, AllocError>
     requires few { slot < 32 }
     requires some { 1 ≤ number }
     ensures entry { IfOk result (λ found. IfSome found (λ next.
@@ -171,7 +171,7 @@ impl<P: Publishing> Desk<P> {
         ensures { IfOk result (λ desk. desk ≡ []) }
     {
         let idle = ConnectionState {
-            sent: 0,
+            sent: Lsn::new(0),
             wants_reply: false,
             has_ended: false,
         };
@@ -238,9 +238,9 @@ impl<P: Publishing> Desk<P> {
         alloc: Global,
         mark: &mut Share<P>,
         token: &mut Option<HistoryToken<P>>,
-        table: usize,
+        table: TableNumber,
         key: &Row,
-    ) -> Result<(u32, Option<Row>), AllocError>
+    ) -> Result<(CommitNumber, Option<Row>), AllocError>
         ensures number { IfOk result (λ found. found.0 ≡ length self.old) }
         ensures above { IfOk result (λ found. mark.old.amount ≤ found.0) }
         ensures seen { IfOk result (λ found.
@@ -262,7 +262,7 @@ impl<P: Publishing> Desk<P> {
     ///
     /// It sends the commit of this number if the slot's subscriber gets something of it. Otherwise it passes over that
     /// commit and those after it, up to the first of which the subscriber gets something, and at most 64.
-    pub(crate) fn step(&mut self, slot: usize, number: u64) -> Option<SenderStep>
+    pub(crate) fn step(&mut self, slot: SlotNumber, number: u64) -> Option<SenderStep>
         ensures log { self.new ≡ self.old }
         ensures entry { IfSome result (IsStepOf P.checked.plan slot self.old number) }
         ensures next { IfSome result (IsNext P.checked.plan slot number) }
@@ -295,7 +295,7 @@ impl<P: Publishing> Desk<P> {
             return None;
         };
         self.connections[slot] = ConnectionState {
-            sent: Lsn::end_of_commit(last).to_u64(),
+            sent: Lsn::end_of_commit(last),
             wants_reply: false,
             has_ended: false,
         };
@@ -303,7 +303,7 @@ impl<P: Publishing> Desk<P> {
     }
 
     /// The subscribers that get something of the commit of this number.
-    pub(crate) fn concerned(&self, number: u32) -> OwnerSet
+    pub(crate) fn concerned(&self, number: CommitNumber) -> OwnerSet
         ensures { OwnedWhere result (gets_some P.checked.plan (entry_at self.now number)) }
     {
         self.book.concerned(number)
@@ -311,7 +311,7 @@ impl<P: Publishing> Desk<P> {
 
     /// The slots whose sender has something to do since the commit of this number: those whose subscriber gets
     /// something of it, and at each multiple of `TOGETHER`, those that are that many commits behind.
-    pub(crate) fn waiting(&self, number: u32) -> OwnerSet {
+    pub(crate) fn waiting(&self, number: CommitNumber) -> OwnerSet {
         let mut slots = self.concerned(number);
         slots.join(self.behind(number, TOGETHER));
         slots
@@ -319,14 +319,14 @@ impl<P: Publishing> Desk<P> {
 
     /// At each multiple of `batch`, the slots whose sender is that many commits behind the commit of this number; at
     /// other numbers none.
-    pub(crate) fn behind(&self, number: u32, batch: u32) -> OwnerSet {
+    pub(crate) fn behind(&self, number: CommitNumber, batch: u32) -> OwnerSet {
         let mut slots = OwnerSet::none();
         if batch == 0 || number % batch != 0 {
             return slots;
         }
         for (slot, connection) in self.connections.iter().enumerate() {
             if slot < 32 {
-                let sent = Lsn::new(connection.sent).commits_before();
+                let sent = connection.sent.commits_before();
                 let behind = u64::from(number).saturating_sub(sent);
                 slots.put(slot, behind >= u64::from(batch));
             }

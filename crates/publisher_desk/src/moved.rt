@@ -3,6 +3,7 @@
 use row_owners::OwnerSet;
 use std::alloc::{AllocError, Global};
 use std::sync::Condvar;
+use tables_log::SlotNumber;
 
 /// A condition variable for each slot, by which its sender is woken when it has something to do.
 #[derive(Drop)]
@@ -21,7 +22,7 @@ impl Moved {
     }
 
     /// The condition variable for the sender of this slot; none if there is no such slot.
-    pub(crate) fn of(&self, slot: usize) -> Option<&Condvar> {
+    pub(crate) fn of(&self, slot: SlotNumber) -> Option<&Condvar> {
         self.slots.get(slot)
     }
 

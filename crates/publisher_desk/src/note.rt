@@ -4,14 +4,15 @@ ghost use Rattle.std.specs.Prelude.{◌≡◌, IfOk};
 ghost use Rattle.std.specs.Option.{option_map};
 
 use crate::receipt::Receipt;
-use filter_tree::{Row, copy_row};
+use filter_tree::{Row, TableNumber, copy_row};
 use std::alloc::{AllocError, Global};
+use tables_log::CommitNumber;
 
 /// What a session read: the row that had this key in this table after this many commits, if there was one.
 #[derive(Debug, Drop)]
 pub struct Reading {
-    pub number: u32,
-    pub table: usize,
+    pub number: CommitNumber,
+    pub table: TableNumber,
     pub key: Row,
     pub answer: Option<Row>,
 }

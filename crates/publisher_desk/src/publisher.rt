@@ -13,13 +13,13 @@ use crate::seat::Seat;
 use crate::seats::Seats;
 use crate::slot_task::SlotTask;
 use crate::step::SenderStep;
-use filter_tree::Row;
+use filter_tree::{Row, TableNumber};
 use shard_checker::Checked;
 use std::alloc::{AllocError, Global};
 use std::marker::Model;
 use std::sync::{Arc, Mutex, Wait};
 use table_changes::Command;
-use tables_log::{Book, CommitError};
+use tables_log::{Book, CommitError, CommitNumber, SlotNumber};
 
 /// A commit of fewer commands is small.
 const SMALL: usize = 8;
@@ -130,7 +130,7 @@ impl<P: Publishing> Publisher<P> {
         seat: &mut Seat<P>,
         commands: Vec<Command>,
         time: u64,
-    ) -> Result<u32, CommitError>
+    ) -> Result<CommitNumber, CommitError>
         ensures ok { IfOk result (λ number.
             seat.new.notes
             ≡ seat.old.notes ++ Committed (receipt_of number (map command_view commands.items) time) ∷ []) }
@@ -178,7 +178,7 @@ impl<P: Publishing> Publisher<P> {
         &self,
         rt: &R,
         seat: &mut Seat<P>,
-        table: usize,
+        table: TableNumber,
         key: Row,
     ) -> Result<Reading, ReadFault>
         ensures ok { IfOk result (λ reading. seat.new.notes ≡ seat.old.notes ++ Looked reading ∷ []) }
@@ -236,7 +236,7 @@ impl<P: Publishing> Publisher<P> {
     ///
     /// It sends the commit of this number if the slot's subscriber gets something of it. Otherwise it passes over that
     /// commit and those after it, up to the first of which the subscriber gets something, and at most 64.
-    pub fn next_step<R: Wait>(&self, rt: &R, slot: usize, number: u64) -> SenderStep
+    pub fn next_step<R: Wait>(&self, rt: &R, slot: SlotNumber, number: u64) -> SenderStep
         ensures { IsNext P.checked.plan slot number result }
     {
         let Some(moved) = self.moved.of(slot) else {
@@ -253,7 +253,7 @@ impl<P: Publishing> Publisher<P> {
     }
 
     /// The next step of the slot's sender, as `next_step` says, if there is something to do now.
-    pub fn step_now<R: Wait>(&self, rt: &R, slot: usize, number: u64) -> Option<SenderStep>
+    pub fn step_now<R: Wait>(&self, rt: &R, slot: SlotNumber, number: u64) -> Option<SenderStep>
         ensures { IfSome result (IsNext P.checked.plan slot number) }
     {
         self.desk.lock(rt).step(slot, number)

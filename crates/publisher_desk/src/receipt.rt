@@ -6,11 +6,12 @@ ghost use Rattle.publisher_desk.specs.Receipts.{receipt_of};
 
 use std::marker::Model;
 use table_changes::Command;
+use tables_log::CommitNumber;
 
 /// A receipt of a commit: its number, its commands and its time.
 #[derive(Debug, Drop)]
 pub struct Receipt {
-    number: u32,
+    number: CommitNumber,
     commands: Vec<Command>,
     time: u64,
 }
@@ -26,7 +27,7 @@ impl Model for Receipt {
 }
 
 impl Receipt {
-    pub(crate) fn new(number: u32, commands: Vec<Command>, time: u64) -> Receipt
+    pub(crate) fn new(number: CommitNumber, commands: Vec<Command>, time: u64) -> Receipt
         ensures { result ≡ receipt_of number (map command_view commands.items) time }
     {
         Receipt {
@@ -37,7 +38,7 @@ impl Receipt {
     }
 
     /// The number of the commit, from 1.
-    pub fn number(&self) -> u32
+    pub fn number(&self) -> CommitNumber
         ensures { result ≡ self.now.number }
     {
         self.number

@@ -8,6 +8,7 @@ use crate::note::Note;
 use std::alloc::Global;
 use std::marker::Model;
 use std::sync::ledger::Share;
+use tables_log::CommitNumber;
 
 /// A session's place at a publisher: its commits and what it read, in their order. Contracts see the list of these
 /// notes, and the beginning of the log that the session has seen. Each reading counts at least as many commits as any
@@ -16,7 +17,7 @@ use std::sync::ledger::Share;
 pub struct Seat<P: Publishing> {
     pub(crate) notes: Vec<Note>,
     /// The greatest number of a note: that of a commit, or how many commits a reading counts.
-    pub(crate) high: u32,
+    pub(crate) high: CommitNumber,
     /// The seat's part of the ledger, whose amount is the number of its receipts.
     pub(crate) mark: Share<P>,
     /// What the seat has seen of the log, for proofs; none before it is shown the log for the first time.

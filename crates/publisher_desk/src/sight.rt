@@ -5,12 +5,13 @@ ghost use Rattle.std.specs.Prelude.{◌≡◌};
 use crate::receipt::Receipt;
 use atomic_table::{Join, Play, Split, TableRule};
 use std::collections::LinkedList;
+use tables_log::CommitNumber;
 
 /// The beginning of the log that a seat has seen, as its receipts, and the numbers of the seat's own commits. It is
 /// only for proofs: no value of it is made.
 pub struct Sight {
     pub seen: LinkedList<Receipt>,
-    pub own: LinkedList<u32>,
+    pub own: LinkedList<CommitNumber>,
 }
 
 /// What one token knows: whether it is the one that has the whole log, the log, and the sights that it has taken in. It

@@ -3,7 +3,7 @@
 ghost use Rattle.std.specs.Prelude.{◌≤◌, length};
 ghost use Rattle.tables_log.specs.BookView.{book_log, book_slots};
 ghost use Rattle.tables_log.specs.Committing.{ChangesSlots};
-ghost use Rattle.tables_log.specs.Slots.{end_after};
+ghost use Rattle.tables_log.specs.Lsn.{end_lsn_of};
 ghost use Rattle.publisher_desk.specs.Held.{AreSentUpTo};
 
 use crate::connection_state::ConnectionState;
@@ -23,8 +23,8 @@ pub trait SlotTask {
         → Type 0 };
 
     fn use_slots(&mut self, book: &mut Book, connections: &mut [ConnectionState]) -> Self::Answer
-        requires { AreSentUpTo (end_after (length (book_log book.old))) connections.old }
+        requires { AreSentUpTo (end_lsn_of (length (book_log book.old))) connections.old }
         ensures did { did self.old self.new book.old book.new connections.old connections.new result }
         ensures slots { ChangesSlots book.old book.new (book_slots book.new) }
-        ensures sent { AreSentUpTo (end_after (length (book_log book.old))) connections.new };
+        ensures sent { AreSentUpTo (end_lsn_of (length (book_log book.old))) connections.new };
 }

@@ -6,6 +6,7 @@ use crate::refusals::{end_refusals, refuse};
 use crate::tables::check_shard;
 use anyhow::{Result, ensure};
 use std::alloc::Global;
+use tables_log::Lsn;
 use test_subscriber::{SubFault, Subscriber};
 
 /// The number of bytes that come at a time.
@@ -33,7 +34,7 @@ fn check_shut(
     check_shard(
         alloc,
         subscriber,
-        (position(subscriber) / 64).saturating_sub(1),
+        Lsn::new(position(subscriber)).commits_before(),
     )?;
     ensure!(
         feed(subscriber, b"W\0\0\0\x07\0\0\0") == Err(SubFault::Closed),

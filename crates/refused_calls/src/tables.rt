@@ -4,7 +4,7 @@ use crate::commands::{FIRST, LAST, numbered_code, numbered_order, numbered_place
 use anyhow::{Result, ensure};
 use filter_tree::Row;
 use std::alloc::Global;
-use tables_log::Book;
+use tables_log::{Book, Lsn};
 use test_subscriber::Subscriber;
 
 /// The rows of the three tables, in their order.
@@ -132,7 +132,10 @@ pub fn check_book(alloc: Global, book: &Book, commits: u64) -> Result<()> {
 pub fn end_of(number: u64) -> u64 {
     match number {
         0 => 0,
-        _ => number.saturating_mul(64).saturating_add(64),
+        _ => {
+            let number = u32::try_from(number).unwrap_or(u32::MAX);
+            Lsn::end_of_commit(number).to_u64()
+        }
     }
 }
 

@@ -110,9 +110,9 @@ fn check_view(alloc: Global, view: &View, commits: u64) -> Result<()> {
     let first = view.subscribers.first().context("there is no subscriber")?;
     let applied = first.applied;
     ensure!(
-        first.position == end_of(applied),
+        first.position.to_u64() == end_of(applied),
         "the subscriber is at {}",
-        first.position
+        first.position.to_u64()
     );
     ensure!(
         shard_after(alloc, applied)?.are(&first.rows),

@@ -7,6 +7,7 @@ use std::alloc::{AllocError, Global};
 use std::io::{Read, Write};
 use std::net::{Ipv4Addr, Net, TcpListener, TcpStream};
 use std::time::{Clock, Duration};
+use tables_log::Lsn;
 use test_subscriber::Subscriber;
 
 /// For how many seconds at most a client waits for the next bytes.
@@ -65,9 +66,9 @@ fn hear(stream: &mut TcpStream, subscriber: &mut Subscriber, piece: &mut [u8]) -
     subscriber.feed(&piece[..count]).ok()
 }
 
-/// How much it has got.
+/// How much it has got: the number of the next commit that it gets; 0 before its stream has started.
 fn got(subscriber: &Subscriber) -> u64 {
-    subscriber.position() / 64
+    Lsn::new(subscriber.position().saturating_add(1)).commits_before()
 }
 
 /// Feeds the bytes to the subscriber, if there is one. Returns its progress, if its stream has started.

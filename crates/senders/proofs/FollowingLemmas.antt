@@ -19,7 +19,8 @@ use Rattle.tables_log.specs.Routes.{commit_in}
 use Rattle.tables_log.specs.StandsFor.{Transaction, AreAccepted, StandsFor}
 use Rattle.tables_log.specs.declared.book.Book.{Book}
 use Rattle.copy_frames.specs.declared.frame.Frame.{Frame}
-use Rattle.copy_both.specs.Streams.{Move, count_before, stream}
+use Rattle.copy_both.specs.Streams.{Move, stream}
+use Rattle.tables_log.specs.Lsn.{commits_before}
 use Rattle.copy_both.specs.Tellings.{telling_of}
 use Rattle.copy_both.specs.VoiceLaws.{AreAt}
 use Rattle.senders.specs.declared.end.End.{End}
@@ -122,8 +123,8 @@ log_is checked book transactions named stands = stands.log ∙ ap (λ (k : Check
 pub served_are_first_parts : ServedAreFirstParts
 served_are_first_parts checked book transactions named stands frames slot start taken written failed why is at =
     let log : List CommitOf = log_of checked transactions in
-    let there : AreAt log (count_before start) taken =
-    subst (λ (l : List CommitOf). AreAt l (count_before start) taken)
+    let there : AreAt log (commits_before start) taken =
+    subst (λ (l : List CommitOf). AreAt l (commits_before start) taken)
     (log_is checked book transactions named stands) at in
     by_cut checked transactions frames slot start taken written failed why is
     (stream (telling_of checked) log slot (length checked.catalog.tables) start is.moves) refl
@@ -150,7 +151,7 @@ module _ (checked : Checked) (transactions : List Transaction)
             accepted;
       }
 
-  sent : (slot position : ℕ) (moves : List Move) → count_before position ≤ length transactions → All IsClocked moves
+  sent : (slot position : ℕ) (moves : List Move) → commits_before position ≤ length transactions → All IsClocked moves
       → All IsSentItem (items_from (checked_view checked) transactions slot position moves)
   unfolding published
   sent slot position moves low clocks =
@@ -235,7 +236,7 @@ closed_tell_the_log checked limit seats served book closed one among frames slot
     let taken : IsTaken (book_log book) one = All-contains (IsTaken (book_log book)) served one closed.taken among in
     served_are_first_parts checked book closed.transactions closed.named closed.stands frames slot start
     (commits_of one) written failed one.end is
-    (subst (λ (o : Option ℕ). AreAt (book_log book) (count_before (unwrap_or o 0)) (commits_of one)) at taken.at)
+    (subst (λ (o : Option ℕ). AreAt (book_log book) (commits_before (unwrap_or o 0)) (commits_of one)) at taken.at)
 
 pub closed_are_followed : ClosedAreFollowed
 closed_are_followed checked limit seats served book closed one frames slot start written part old between new follows

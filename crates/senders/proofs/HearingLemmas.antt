@@ -6,7 +6,7 @@ use Rattle.std.proofs.KnownBytes.{Consumes-nil, Consumes-trans}
 use Rattle.shard_checker.specs.CheckedView.{CheckedOf, setting_in}
 use Rattle.table_changes.specs.Tables.{no_rows}
 use Rattle.tables_log.specs.BookView.{book_log}
-use Rattle.tables_log.specs.Slots.{end_after}
+use Rattle.tables_log.specs.Lsn.{end_lsn_of}
 use Rattle.tables_log.specs.StandsFor.{AreAccepted}
 use Rattle.tables_log.specs.declared.book.Book.{Book}
 use Rattle.tables_log.proofs.StandLemmas.{each_is_logged}
@@ -108,7 +108,7 @@ sent_from None (Some started) sent from stays = omega arith
 -- the log of the book has the start if a status is ahead
 abbrev LogReaches : Book → Ear → Result Heard LinkFault → Type 0
 LogReaches book ear heard =
-    heard ≡ Err fault.StatusAhead → IsSentFrom (ear_started ear) (end_after (length (book_log book)))
+    heard ≡ Err fault.StatusAhead → IsSentFrom (ear_started ear) (end_lsn_of (length (book_log book)))
 
 explained : (checked : CheckedOf) (bytes : List ℕ) (old new : Ear) (book : Book) (sent : ℕ)
     (heard : Result Heard LinkFault) → IsBookFor checked book → IsSentFrom (ear_started old) sent
@@ -124,9 +124,9 @@ explained checked bytes old new book sent (Err fault) is from reaches stays answ
     sent = sent_then (ear_started old) sent (ear_started new);
     from = sent_from (ear_started old) (ear_started new) sent from stays;
     has = subst (λ (n : ℕ). HasLinkFault checked bytes
-        (min (sent_then (ear_started old) sent (ear_started new)) (end_after n)) fault)
+        (min (sent_then (ear_started old) sent (ear_started new)) (end_lsn_of n)) fault)
         (each_is_logged book is.transactions is.stands) explains;
-    reaches = λ ahead. subst (λ (n : ℕ). IsSentFrom (ear_started new) (end_after n))
+    reaches = λ ahead. subst (λ (n : ℕ). IsSentFrom (ear_started new) (end_lsn_of n))
         (each_is_logged book is.transactions is.stands) (reaches (ap (λ (f : LinkFault). Err f) ahead));
   };
   answered = answered;

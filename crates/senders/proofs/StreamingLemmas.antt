@@ -8,7 +8,8 @@ use Rattle.shard_checker.specs.CheckedView.{CheckedOf}
 use Rattle.tables_log.specs.Commits.{CommitOf}
 use Rattle.copy_frames.specs.Contents.{copy_both_response, copy_done}
 use Rattle.copy_both.specs.LinkLaws.{started_at}
-use Rattle.copy_both.specs.Streams.{Move, count_before, stream}
+use Rattle.copy_both.specs.Streams.{Move, stream}
+use Rattle.tables_log.specs.Lsn.{commits_before}
 use Rattle.copy_both.specs.StreamLaws.{Start}
 use Rattle.copy_both.specs.Tellings.{telling_of}
 use Rattle.copy_both.specs.VoiceLaws.{AreAt, Follow, VoiceRun, start_count, takes_in}
@@ -35,11 +36,11 @@ use Rattle.senders.proofs.SendingLemmas.{spells}
 
 -- What was passed on and what waits are together the stream of these commits.
 pub record Wrote (checked : CheckedOf) (slot start : ℕ) (taken : List CommitOf) (passed output : List ℕ) : Type 0 where
-  pub follow : Follow (count_before start) taken
+  pub follow : Follow (commits_before start) taken
   pub moves : List Move
   pub clocks : All IsClocked moves
   pub takes : takes_in moves ≡ length taken
-  pub bytes : (log : List CommitOf) → AreAt log (count_before start) taken
+  pub bytes : (log : List CommitOf) → AreAt log (commits_before start) taken
       → passed ++ output ≡ stream (telling_of checked) log slot (length checked.catalog.tables) start moves
 
 -- CopyDone was said where the client said it, unless memory was refused, which is then reported
@@ -58,11 +59,11 @@ module _ (checked : CheckedOf) (slot start : ℕ) where
       → Follows (started_telling checked slot start copy_both_response) now taken bytes → Spells now output []
       → Wrote checked slot start taken (copy_both_response ++ bytes) output
   wrote taken now bytes output clocks follows spelled =
-      let position : start_count now ≡ count_before start =
-      ap (λ (s : Start). count_before s.position) follows.start_is in
+      let position : start_count now ≡ commits_before start =
+      ap (λ (s : Start). commits_before s.position) follows.start_is in
       let here : Start = started_at checked (slot, start) in
       record {
-        follow = subst (Follow (count_before start)) follows.taken_is
+        follow = subst (Follow (commits_before start)) follows.taken_is
             (subst (λ (n : ℕ). Follow n now.taken) position spelled.follow);
         moves = now.moves;
         clocks = clocks;
@@ -70,7 +71,7 @@ module _ (checked : CheckedOf) (slot start : ℕ) where
         bytes = λ log are.
             let at : AreAt log (start_count now) now.taken =
             subst (λ (n : ℕ). AreAt log n now.taken) (sym position)
-            (subst (AreAt log (count_before start)) (sym follows.taken_is) are) in
+            (subst (AreAt log (commits_before start)) (sym follows.taken_is) are) in
             ap (λ (passed : List ℕ). passed ++ output) (sym follows.passed_is) ∙ spelled.bytes log at
             ∙ append-nil (stream (telling_of now.checked) log now.start.slot now.start.tables now.start.position
             now.moves)
@@ -97,7 +98,7 @@ module _ (checked : CheckedOf) (slot start : ℕ) where
           written = front ++ closes.written;
           put = Appends-trans before sent last front closes.written
               (Appends-trans before opened sent copy_both_response goes.bytes put goes.put) closes.put;
-          follow = subst (Follow (count_before start)) (sym taken_is) w.follow;
+          follow = subst (Follow (commits_before start)) (sym taken_is) w.follow;
           moves = w.moves;
           clocks = w.clocks;
           takes = w.takes ∙ ap length (sym taken_is);
@@ -108,7 +109,7 @@ module _ (checked : CheckedOf) (slot start : ℕ) where
               append_assoc front closes.written closes.rest ∙ ap (λ (x : List ℕ). front ++ x) closes.bytes
               ∙ ap (λ (x : List ℕ). x ++ closes.last)
               (sym (append-nil front) ∙ ap (λ (x : List ℕ). front ++ x) (sym goes.quiet.none)
-              ∙ w.bytes log (subst (AreAt log (count_before start)) taken_is are));
+              ∙ w.bytes log (subst (AreAt log (commits_before start)) taken_is are));
           all = λ sound memory. closes.all sound;
           whole = λ finished. record { front = closes.written; list_is = sym closes.bytes };
           answered = λ sound client done. record {
@@ -135,7 +136,7 @@ module _ (checked : CheckedOf) (slot start : ℕ) where
           written = front ++ [];
           put = Appends-trans before sent last front []
               (Appends-trans before opened sent copy_both_response breaks.bytes put breaks.put) says.put;
-          follow = subst (Follow (count_before start)) (sym taken_is) w.follow;
+          follow = subst (Follow (commits_before start)) (sym taken_is) w.follow;
           moves = w.moves;
           clocks = w.clocks;
           takes = w.takes ∙ ap length (sym taken_is);
@@ -144,7 +145,7 @@ module _ (checked : CheckedOf) (slot start : ℕ) where
           said = Nothing refl;
           bytes = λ log are.
               ap (λ (x : List ℕ). x ++ voice_output voice) (append-nil front)
-              ∙ w.bytes log (subst (AreAt log (count_before start)) taken_is are)
+              ∙ w.bytes log (subst (AreAt log (commits_before start)) taken_is are)
               ∙ sym (append-nil (stream (telling_of checked) log slot (length checked.catalog.tables) start w.moves));
           all = λ sound memory. all sound;
           whole = λ finished. absurd (unfinished finished);
@@ -279,7 +280,7 @@ module _ (checked : CheckedOf) (slot start : ℕ) (before last : Option (List �
         start_is = start_is;
         written = written;
         put = put;
-        follow = subst (Follow (count_before start)) (sym no_commits) tt;
+        follow = subst (Follow (commits_before start)) (sym no_commits) tt;
         moves = [];
         clocks = All-nil IsClocked;
         takes = ap length (sym no_commits);

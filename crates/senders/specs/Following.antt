@@ -12,7 +12,8 @@ use Rattle.tables_log.specs.declared.book.Book.{Book}
 use Rattle.copy_frames.specs.Contents.{copy_done}
 use Rattle.copy_frames.specs.declared.frame.Frame.{Frame}
 use Rattle.copy_both.specs.HeardFrames.{HasEnd}
-use Rattle.copy_both.specs.Streams.{Move, count_before}
+use Rattle.copy_both.specs.Streams.{Move}
+use Rattle.tables_log.specs.Lsn.{commits_before}
 use Rattle.copy_both.specs.VoiceLaws.{AreAt, takes_in}
 use Rattle.senders.specs.declared.end.End.{End}
 use Rattle.senders.specs.declared.end.End.TheVariants.{Finished}
@@ -57,7 +58,7 @@ ServedAreFirstParts = (checked : CheckedOf) (book : Book) (transactions : List T
     → book_checked book ≡ checked → StandsFor book transactions
     → (frames : List Frame) (slot start : ℕ) (taken : List CommitOf) (written : List ℕ) (failed : Bool) (why : End)
     → IsStream checked frames slot start taken written failed why
-    → AreAt (book_log book) (count_before start) taken
+    → AreAt (book_log book) (commits_before start) taken
     → IsFirstPart checked transactions frames slot start taken written why
 
 -- A subscriber that has its shard, opens a connection at its own position, and is fed any prefix of such a stream, in

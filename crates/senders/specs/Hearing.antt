@@ -3,7 +3,7 @@
 use Rattle.std.specs.Prelude.{◌≡◌, ◌≤◌, ℕ, max, min, List, ◌++◌, length, slice_get, Option, Some, None, Result, Ok, Err}
 use Rattle.shard_checker.specs.CheckedView.{CheckedOf, setting_in}
 use Rattle.table_changes.specs.Tables.{no_rows}
-use Rattle.tables_log.specs.Slots.{end_after}
+use Rattle.tables_log.specs.Lsn.{end_lsn_of}
 use Rattle.tables_log.specs.StandsFor.{Transaction, AreAccepted}
 use Rattle.copy_both.specs.Ears.{ear_started, ear_refusal}
 use Rattle.copy_both.specs.HeardFrames.{frames_in, AsksIfStarted, GoesOnOrEnds, HasHeard, HasLinkFault, IsAnswered}
@@ -37,8 +37,8 @@ pub record HoldsFault (checked : CheckedOf) (bytes : List ℕ) (started : Option
     pub accepted : AreAccepted (setting_in checked) no_rows transactions
     pub sent : ℕ
     pub from : IsSentFrom started sent
-    pub has : HasLinkFault checked bytes (min sent (end_after (length transactions))) fault
-    pub reaches : fault ≡ StatusAhead → IsSentFrom started (end_after (length transactions))
+    pub has : HasLinkFault checked bytes (min sent (end_lsn_of (length transactions))) fault
+    pub reaches : fault ≡ StatusAhead → IsSentFrom started (end_lsn_of (length transactions))
 
 -- What was started stays so.
 abbrev pub StaysStarted : Ear → Ear → Type 0

@@ -4,7 +4,8 @@ use Rattle.std.specs.Io.KnownBytes.{Consumes}
 use Rattle.filter_tree.specs.Memory.{Answers}
 use Rattle.shard_checker.specs.CheckedView.{CheckedOf}
 use Rattle.tables_log.specs.BookView.{book_log, book_slots}
-use Rattle.tables_log.specs.Slots.{confirmed_at, end_after}
+use Rattle.tables_log.specs.Lsn.{end_lsn_of}
+use Rattle.tables_log.specs.Slots.{confirmed_at}
 use Rattle.tables_log.specs.declared.book.Book.{Book}
 use Rattle.copy_both.specs.Ears.{HearLeaves, ear_phase, ear_refusal, ear_started, hear_answer}
 use Rattle.copy_both.specs.HeardFrames.{frames_in, AsksIfStarted, HasEnd, HasHeard, Requests}
@@ -14,8 +15,8 @@ use Rattle.copy_both.specs.declared.link_fault.LinkFault.{LinkFault}
 use Rattle.copy_both.specs.declared.link_fault.LinkFault.TheVariants.{StatusAhead}
 use Rattle.publisher_desk.specs.declared.connection_state.ConnectionState.{ConnectionState}
 use Rattle.senders.specs.Hearing.{Faults, IsSentFrom, StaysStarted, sent_by}
-use Rattle.senders.specs.declared.stream_start.StreamStart.{StreamStart}
-use Rattle.senders.specs.declared.stream_start.StreamStart.TheVariants as stream_start
+use Rattle.senders.specs.declared.beginning.Beginning.{Beginning}
+use Rattle.senders.specs.declared.beginning.Beginning.TheVariants as beginning
 use Rattle.senders.specs.declared.listener_end.ListenerEnd.{ListenerEnd}
 use Rattle.senders.specs.declared.listener_end.ListenerEnd.TheVariants as listener_end
 use Rattle.senders.specs.declared.listener.Listened.{Listened}
@@ -56,7 +57,7 @@ pub record HeardPiece (before after : Listener) (old new : Book) (connections : 
       (hear_answer before.ear old (piece_of before) (sent_by (ear_started before.ear) connections)) heard
   pub left : HearLeaves (ear_phase before.ear) before.ear after.ear old new (piece_of before)
       (sent_by (ear_started before.ear) connections) heard
-  pub reaches : heard ≡ Err StatusAhead → IsSentFrom (ear_started after.ear) (end_after (length (book_log old)))
+  pub reaches : heard ≡ Err StatusAhead → IsSentFrom (ear_started after.ear) (end_lsn_of (length (book_log old)))
   pub room : length after.piece.items ≡ length before.piece.items
   pub compares : Compares before after old
 
@@ -138,10 +139,11 @@ pub record EndsAt (checked : CheckedOf) (before after : Option (List ℕ)) (fail
   pub hears : HearsLast checked before after failed ended old new why
   pub started_is : ear_started new.ear ≡ started
 
-abbrev pub BeginsAs : CheckedOf → Option (List ℕ) → Option (List ℕ) → Bool → Bool → Listener → Listener → StreamStart → Type 0
-BeginsAs checked before after failed ended old new (stream_start.Started started) =
+abbrev pub BeginsAs : CheckedOf → Option (List ℕ) → Option (List ℕ) → Bool → Bool → Listener → Listener → Beginning
+    → Type 0
+BeginsAs checked before after failed ended old new (beginning.Started started) =
     StartsOn checked before after old new started
-BeginsAs checked before after failed ended old new (stream_start.Ended started why) =
+BeginsAs checked before after failed ended old new (beginning.Ended started why) =
     EndsAt checked before after failed ended old new (Some started) why
-BeginsAs checked before after failed ended old new (stream_start.Refused why) =
+BeginsAs checked before after failed ended old new (beginning.Refused why) =
     EndsAt checked before after failed ended old new None why

@@ -5,7 +5,8 @@ use Rattle.std.specs.Io.KnownBytes.{Appends}
 use Rattle.shard_checker.specs.CheckedView.{CheckedOf}
 use Rattle.tables_log.specs.Commits.{CommitOf}
 use Rattle.copy_frames.specs.Contents.{copy_done}
-use Rattle.copy_both.specs.Streams.{Move, count_before, stream}
+use Rattle.copy_both.specs.Streams.{Move, stream}
+use Rattle.tables_log.specs.Lsn.{commits_before}
 use Rattle.copy_both.specs.Tellings.{telling_of}
 use Rattle.copy_both.specs.VoiceLaws.{AreAt, Follow, takes_in}
 use Rattle.copy_both.specs.declared.link_fault.LinkFault.TheVariants as fault
@@ -55,14 +56,14 @@ pub record Streams (checked : CheckedOf) (slot start : ℕ) (before after : Opti
   pub start_is : served.start ≡ Some start
   pub written : List ℕ
   pub put : Appends before after written
-  pub follow : Follow (count_before start) (commits_of served)
+  pub follow : Follow (commits_before start) (commits_of served)
   pub moves : List Move
   pub clocks : All IsClocked moves
   pub takes : takes_in moves ≡ length (commits_of served)
   pub rest : List ℕ
   pub last : List ℕ
   pub said : IsSaid why last
-  pub bytes : (log : List CommitOf) → AreAt log (count_before start) (commits_of served)
+  pub bytes : (log : List CommitOf) → AreAt log (commits_before start) (commits_of served)
       → written ++ rest ≡ stream (telling_of checked) log slot (length checked.catalog.tables) start moves ++ last
   pub all : failed ≡ false → served.end ≢ end.Link fault.OutOfMemory → rest ≡ []
   pub whole : served.end ≡ end.Finished → IsTail rest last

@@ -9,7 +9,8 @@ use Rattle.copy_frames.specs.Contents.{copy_done}
 use Rattle.copy_frames.specs.declared.frame.Frame.{Frame}
 use Rattle.copy_both.specs.HeardFrames.{AsksFor, HasEnd, IsRefusedStart, Requests, frames_in}
 use Rattle.copy_both.specs.Refusals.{error_response}
-use Rattle.copy_both.specs.Streams.{Move, count_before, stream}
+use Rattle.copy_both.specs.Streams.{Move, stream}
+use Rattle.tables_log.specs.Lsn.{commits_before}
 use Rattle.copy_both.specs.Tellings.{telling_of}
 use Rattle.copy_both.specs.VoiceLaws.{AreAt, Follow, takes_in}
 use Rattle.copy_both.specs.declared.link_fault.LinkFault.TheVariants as fault
@@ -38,14 +39,14 @@ pub data IsAfterStream (frames : List Frame) (last : List ℕ) : Type 0 where
 pub record IsStream (checked : CheckedOf) (frames : List Frame) (slot start : ℕ) (taken : List CommitOf)
     (written : List ℕ) (failed : Bool) (why : End) : Type 0 where
   pub asks : AsksFor checked frames slot start
-  pub follow : Follow (count_before start) taken
+  pub follow : Follow (commits_before start) taken
   pub moves : List Move
   pub clocks : All IsClocked moves
   pub takes : takes_in moves ≡ length taken
   pub rest : List ℕ
   pub last : List ℕ
   pub last_is : IsAfterStream frames last
-  pub bytes : (log : List CommitOf) → AreAt log (count_before start) taken
+  pub bytes : (log : List CommitOf) → AreAt log (commits_before start) taken
       → written ++ rest ≡ stream (telling_of checked) log slot (length checked.catalog.tables) start moves ++ last
   pub all : failed ≡ false → why ≢ end.Link fault.OutOfMemory → rest ≡ []
   pub whole : why ≡ end.Finished → IsTail rest last

@@ -2,7 +2,7 @@
 -- Protocol.
 use Rattle.std.specs.Prelude.{◌≡◌, ◌≤◌, ℕ, ◌+◌, List, length, map, unwrap_or}
 use Rattle.std.specs.Arc.{arc_value}
-use Rattle.copy_both.specs.Streams.{count_before}
+use Rattle.tables_log.specs.Lsn.{commits_before}
 use Rattle.copy_both.specs.VoiceLaws.{AreAt}
 use Rattle.senders.specs.declared.end.End.TheVariants.{Finished}
 use Rattle.senders.specs.declared.served.Served.{Served}
@@ -10,7 +10,7 @@ use Rattle.tables_log.specs.Commits.{CommitOf}
 
 -- how many commits of the log begin before its start; none where it has no start
 abbrev pub taken_from : Served → ℕ
-taken_from served = count_before (unwrap_or served.start 0)
+taken_from served = commits_before (unwrap_or served.start 0)
 
 abbrev pub taken_of : Served → List CommitOf
 taken_of served = map (λ commit. arc_value commit) served.taken.items

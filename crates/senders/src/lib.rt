@@ -8,6 +8,7 @@
 //! `taken` and `reaching`.
 #![tactic(auto)]
 
+mod beginning;
 mod clock;
 mod close_error;
 mod closed;
@@ -37,7 +38,6 @@ mod sink;
 mod slot_tasks;
 mod source;
 mod speaking;
-mod stream_start;
 mod taken;
 
 pub use close_error::CloseError;

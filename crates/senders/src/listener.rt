@@ -3,7 +3,8 @@
 ghost use Rattle.std.specs.Prelude.{◌≡◌, ℕ, ◌<◌, ◌≤◌, Err, IsTrue, length, slice_index};
 ghost use Rattle.filter_tree.specs.Memory.{Answers};
 ghost use Rattle.tables_log.specs.BookView.{book_log, book_slots};
-ghost use Rattle.tables_log.specs.Slots.{confirmed_at, end_after};
+ghost use Rattle.tables_log.specs.Lsn.{end_lsn_of};
+ghost use Rattle.tables_log.specs.Slots.{confirmed_at};
 ghost use Rattle.copy_both.specs.Ears.{HearLeaves, ear_phase, ear_started, hear_answer};
 ghost use Rattle.copy_both.specs.Voices.{reported_fault};
 ghost use Rattle.copy_both.specs.declared.link_fault.LinkFault.TheVariants.{StatusAhead};
@@ -11,12 +12,12 @@ ghost use Rattle.senders.specs.Hearing.{IsSentFrom, sent_by};
 
 use crate::failed::Failed;
 use crate::source::Source;
-use copy_both::{Ear, Heard, LinkFault, first_sent};
+use copy_both::{Ear, Heard, LinkFault, StreamStart, first_sent};
 use publisher_desk::{ConnectionState, Publisher, Publishing, SlotTask};
 use shard_checker::Checked;
 use std::alloc::{AllocError, Global};
 use std::sync::Arc;
-use tables_log::{Book, Lsn};
+use tables_log::{Book, Lsn, SlotNumber};
 
 /// The greatest number of slots: a catalog has at most 32 subscriptions.
 const SLOTS: usize = 32;
@@ -43,64 +44,64 @@ pub struct Listened {
 }
 
 /// The positions up to which the slots are confirmed.
-fn confirmed_positions(book: &Book) -> [u64; SLOTS]
+fn confirmed_positions(book: &Book) -> [Lsn; SLOTS]
     ensures { (slot : ℕ) → slot < SLOTS → slice_index result slot ≡ confirmed_at (book_slots book.now) slot }
 {
-    let mut positions = [0; SLOTS];
+    let mut positions = [Lsn::new(0); SLOTS];
     for (slot, position) in positions.iter_mut().enumerate() {
-        *position = book.confirmed(slot);
+        *position = Lsn::new(book.confirmed(slot));
     }
     positions
 }
 
 /// Whether the stream of the slot starts after the position of these up to which the slot was confirmed.
-fn is_after(confirmed: &[u64], slot: usize, start: u64) -> bool
+fn is_after(confirmed: &[Lsn], slot: SlotNumber, start: Lsn) -> bool
     ensures within { IsTrue result → slot < length confirmed.now }
     ensures after { IsTrue result → slice_index confirmed.now slot < start }
 {
-    slot < confirmed.len() && confirmed[slot] < start
+    slot < confirmed.len() && start.is_after(confirmed[slot])
 }
 
 /// The sent position that statuses are compared with: that up to which the slot's client was sent the log, or the
 /// stream's first position if that is greater.
-fn sent_position(started: Option<(usize, u64)>, connections: &[ConnectionState]) -> u64
+fn sent_position(started: Option<StreamStart>, connections: &[ConnectionState]) -> Lsn
     ensures { result ≡ sent_by started connections.now }
 {
-    let Some((slot, start)) = started else {
-        return 0;
+    let Some(stream) = started else {
+        return Lsn::new(0);
     };
-    let first = first_sent(start);
-    match connections.get(slot) {
+    let first = first_sent(stream.start);
+    match connections.get(stream.slot) {
         None => first,
         Some(connection) => first.max(connection.sent),
     }
 }
 
 /// Whether a log that ends here has the start of the stream, if one was started.
-fn has_start(started: Option<(usize, u64)>, log_end: u64) -> bool
+fn has_start(started: Option<StreamStart>, log_end: Lsn) -> bool
     ensures { IsTrue result → IsSentFrom started log_end }
 {
     match started {
         None => true,
-        Some((_, start)) => first_sent(start) <= log_end,
+        Some(stream) => !first_sent(stream.start).is_after(log_end),
     }
 }
 
 /// Hears a piece. A status that is ahead is after the start of the stream, since the log has that start.
-fn hear_piece(ear: &mut Ear, piece: &[u8], book: &mut Book, sent: u64) -> Result<Heard, LinkFault>
+fn hear_piece(ear: &mut Ear, piece: &[u8], book: &mut Book, sent: Lsn) -> Result<Heard, LinkFault>
     ensures answer { Answers (λ heard. heard) reported_fault (hear_answer ear.old book.old piece.now sent) result }
     ensures left { HearLeaves (ear_phase ear.old) ear.old ear.new book.old book.new piece.now sent result }
     ensures reaches { result ≡ Err StatusAhead
-        → IsSentFrom (ear_started ear.new) (end_after (length (book_log book.old))) }
+        → IsSentFrom (ear_started ear.new) (end_lsn_of (length (book_log book.old))) }
 {
-    let log_end = Lsn::end_of_commit(book.log_len()).to_u64();
-    let heard = ear.hear(piece, book, sent);
+    let log_end = Lsn::end_of_commit(book.log_len());
+    let heard = ear.hear(piece, book, sent.to_u64());
     match heard {
         Err(LinkFault::StatusAhead) => {}
         Ok(_) | Err(_) => return heard,
     }
     // (a log never gets shorter, so that it has the start of each stream)
-    if has_start(ear.started(), log_end) {
+    if has_start(ear.stream(), log_end) {
         heard
     } else {
         Err(LinkFault::OutOfMemory)
@@ -121,7 +122,7 @@ fn connection_after(
     };
     if begins {
         return ConnectionState {
-            sent: 0,
+            sent: Lsn::new(0),
             wants_reply,
             has_ended: ends,
         };
@@ -170,11 +171,11 @@ impl Listener {
         Ok(0 < count)
     }
 
-    /// The slot whose stream was started, and where in the log the stream starts, in bytes.
-    pub(crate) fn started(&self) -> Option<(usize, u64)>
+    /// The stream that was started.
+    pub(crate) fn started(&self) -> Option<StreamStart>
         ensures { result ≡ ear_started self.now.ear }
     {
-        self.ear.started()
+        self.ear.stream()
     }
 
     /// Whether its client requested the position where the stream starts, after what was confirmed for the slot.
@@ -215,18 +216,18 @@ impl SlotTask for Listener {
         HeardPiece before after old new connections listened.heard };
 
     fn use_slots(&mut self, book: &mut Book, connections: &mut [ConnectionState]) -> Listened {
-        let was_started = self.ear.started().is_some();
+        let was_started = self.ear.stream().is_some();
         let confirmed = confirmed_positions(book);
-        let sent = sent_position(self.ear.started(), connections);
+        let sent = sent_position(self.ear.stream(), connections);
         let heard = hear_piece(&mut self.ear, &self.piece[..self.filled], book, sent);
         let mut was_over = false;
-        if let Some((slot, start)) = self.ear.started() {
+        if let Some(stream) = self.ear.stream() {
             if !was_started {
-                self.is_requested = is_after(&confirmed, slot, start);
+                self.is_requested = is_after(&confirmed, stream.slot, stream.start);
             }
-            if let Some(connection) = connections.get(slot).copied() {
+            if let Some(connection) = connections.get(stream.slot).copied() {
                 was_over = was_started && connection.has_ended;
-                connections[slot] = connection_after(connection, !was_started, &heard);
+                connections[stream.slot] = connection_after(connection, !was_started, &heard);
             }
         }
         Listened { heard, was_over }

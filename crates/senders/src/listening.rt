@@ -4,11 +4,11 @@ ghost use Rattle.std.specs.Prelude.{◌≡◌, ◌<◌, length};
 ghost use Rattle.senders.specs.Hearing.{HearsPiece};
 ghost use Rattle.senders.specs.Listening.{BeginsAs, HearsAll, HearsNext, SaysOfPiece, next_after, piece_of};
 
+use crate::beginning::Beginning;
 use crate::listener::{Listened, Listener};
 use crate::listener_end::ListenerEnd;
 use crate::next::Next;
 use crate::source::Source;
-use crate::stream_start::StreamStart;
 use publisher_desk::{Publisher, Publishing};
 use std::sync::Wait;
 
@@ -64,7 +64,7 @@ pub(crate) fn begin<P: Publishing, S: Source, R: Wait>(
     publisher: &Publisher<P>,
     listener: &mut Listener,
     reader: &mut S,
-) -> StreamStart
+) -> Beginning
     requires { 0 < length listener.old.piece.items }
     ensures { BeginsAs P.checked (S.left reader.old) (S.left reader.new) (S.has_failed reader.new)
         (S.has_ended reader.new) listener.old listener.new result }
@@ -72,9 +72,9 @@ pub(crate) fn begin<P: Publishing, S: Source, R: Wait>(
     for _ in rt.forever() {
         let next = hear_next(rt, publisher, listener, reader);
         match (listener.started(), next) {
-            (Some(started), Next::GoesOn(_)) => return StreamStart::Started(started),
-            (Some(started), Next::Ends(why)) => return StreamStart::Ended(started, why),
-            (None, Next::Ends(why)) => return StreamStart::Refused(why),
+            (Some(started), Next::GoesOn(_)) => return Beginning::Started(started),
+            (Some(started), Next::Ends(why)) => return Beginning::Ended(started, why),
+            (None, Next::Ends(why)) => return Beginning::Refused(why),
             (None, Next::GoesOn(_)) => {}
         }
     }

@@ -6,9 +6,10 @@ ghost use Rattle.publisher_desk.specs.Logged.{RiseTo};
 ghost use Rattle.senders.specs.Gathering.{numbers_of, IsRising, IsRisingSeat};
 
 use publisher_desk::{Note, Publishing, Receipt, Seat};
+use tables_log::CommitNumber;
 
 /// Whether the numbers increase, and are from 1 to `high`.
-pub(crate) fn rise(receipts: &[&Receipt], high: u32) -> bool
+pub(crate) fn rise(receipts: &[&Receipt], high: CommitNumber) -> bool
     ensures { MatchBool result (RiseTo high 0 (numbers_of (map (λ receipt. receipt.now) receipts.now)))
         (¬ RiseTo high 0 (numbers_of (map (λ receipt. receipt.now) receipts.now))) }
 {
@@ -24,7 +25,7 @@ pub(crate) fn rise(receipts: &[&Receipt], high: u32) -> bool
 }
 
 /// Whether the numbers of the receipts among the notes increase, and are from 1 to `high`.
-fn is_rising(notes: &[Note], high: u32) -> bool
+fn is_rising(notes: &[Note], high: CommitNumber) -> bool
     ensures { MatchBool result (IsRising high notes.now) (¬ IsRising high notes.now) }
 {
     let mut last = 0;
@@ -42,7 +43,7 @@ fn is_rising(notes: &[Note], high: u32) -> bool
 
 /// Whether the numbers of each seat's receipts increase, and are from 1 to `high`. In any seat, a reading counts at
 /// least as many commits as each note before it (`forward`).
-pub(crate) fn are_rising<P: Publishing>(seats: &[Seat<P>], high: u32) -> bool
+pub(crate) fn are_rising<P: Publishing>(seats: &[Seat<P>], high: CommitNumber) -> bool
     ensures rising { MatchBool result (All (IsRisingSeat high) seats.now) (¬ All (IsRisingSeat high) seats.now) }
     ensures forward { IsTrue result → All IsForwardSeat seats.now }
     ensures timed { IsTrue result → All IsTimedSeat seats.now }

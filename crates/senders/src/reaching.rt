@@ -9,6 +9,7 @@ ghost use Rattle.senders.specs.declared.served.Served.{Served};
 use crate::served::Served;
 use crate::taken::commits_before;
 use std::alloc::{AllocError, Global};
+use tables_log::SlotNumber;
 
 /// Puts the connections into the order of their starts.
 fn sort_by_start(all: &mut Vec<&Served>)
@@ -32,14 +33,14 @@ fn by_start(alloc: Global, served: &[Served]) -> Result<Vec<&Served>, AllocError
 }
 
 /// Whether the connection is of this slot.
-fn is_of(one: &Served, slot: usize) -> bool
+fn is_of(one: &Served, slot: SlotNumber) -> bool
     ensures { MatchBool result (one.now.slot ≡ Some slot) (one.now.slot ≢ Some slot) }
 {
     one.slot == Some(slot)
 }
 
 /// How many commits are before the position that the connection's client requested of the slot; 0 if it requested none.
-fn requested(one: &Served, slot: usize) -> u64
+fn requested(one: &Served, slot: SlotNumber) -> u64
     ensures accounted { (count : ℕ) → count < result → Accounts slot count one.now }
     ensures most { one.now.slot ≡ Some slot → one.now.is_requested ≡ true → taken_from one.now ≤ result }
 {
@@ -51,7 +52,7 @@ fn requested(one: &Served, slot: usize) -> u64
 }
 
 /// The greatest number of commits before a start that a client of the slot requested; 0 if none did.
-fn most_requested(all: &[&Served], slot: usize) -> u64
+fn most_requested(all: &[&Served], slot: SlotNumber) -> u64
     ensures accounted { (count : ℕ) → count < result → IsAccounted (map (λ one. one.now) all.now) slot count }
     ensures most { All (λ (one : Served). one.slot ≡ Some slot → one.is_requested ≡ true → taken_from one ≤ result)
         (map (λ one. one.now) all.now) }
@@ -65,7 +66,7 @@ fn most_requested(all: &[&Served], slot: usize) -> u64
 
 /// Whether each commit before the start of a connection of the slot was taken for a connection of the slot, or is
 /// before a position that a client of the slot requested. The connections are in the order of their starts.
-fn is_reached(all: &[&Served], slot: usize) -> bool
+fn is_reached(all: &[&Served], slot: SlotNumber) -> bool
     requires { IsNonDecreasingBy taken_from (map (λ one. one.now) all.now) }
     ensures { MatchBool result (IsReached (map (λ one. one.now) all.now) slot)
         (¬ IsReached (map (λ one. one.now) all.now) slot) }

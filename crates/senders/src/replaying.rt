@@ -13,7 +13,7 @@ ghost use Rattle.senders.specs.Replays.{IsAgain, IsNotAgain, IsMissingFor, Repla
 use crate::close_error::CloseError;
 use crate::readings::is_right_now;
 use publisher_desk::{Reading, Receipt};
-use tables_log::{Book, Commit, CommitError};
+use tables_log::{Book, Commit, CommitError, CommitNumber};
 
 /// Whether there are equal commits, or none.
 fn are_same(one: Option<&Commit>, other: Option<&Commit>) -> bool
@@ -40,7 +40,7 @@ fn is_same(commit: &Commit, other: Option<&Commit>) -> bool
 }
 
 /// Whether the books have the same entry of this number.
-fn have_same_entry(one: &Book, other: &Book, number: u32) -> bool
+fn have_same_entry(one: &Book, other: &Book, number: CommitNumber) -> bool
     ensures { MatchBool result
         (entry_at (book_log one.now) number ≡ entry_at (book_log other.now) number)
         (entry_at (book_log one.now) number ≢ entry_at (book_log other.now) number) }

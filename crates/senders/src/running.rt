@@ -16,13 +16,13 @@ use crate::sending::send_all;
 use crate::sink::Sink;
 use crate::slot_tasks::end_connection;
 use crate::source::Source;
-use copy_both::Voice;
+use copy_both::{StreamStart, Voice};
 use publisher_desk::{Publisher, Publishing};
 use std::alloc::Global;
 use std::sync::{Arc, Wait};
 use std::thread::{Threads, join_mut};
 use std::time::Clock;
-use tables_log::Commit;
+use tables_log::{Commit, SlotNumber};
 
 /// The result of a sender: which commits it took, why it stopped, and whether it was the first to end the connection.
 #[derive(Drop)]
@@ -36,7 +36,7 @@ pub struct Sent {
 pub(crate) fn send<P: Publishing, W: Sink, G: Gate, R: Wait + Clock>(
     rt: &R,
     publisher: &Publisher<P>,
-    started: (usize, u64),
+    started: StreamStart,
     voice: &mut Voice,
     writer: &mut W,
     gate: &G,
@@ -51,7 +51,11 @@ pub(crate) fn send<P: Publishing, W: Sink, G: Gate, R: Wait + Clock>(
     let is_first = match stop {
         SenderEnd::ConnectionEnded => false,
         SenderEnd::Finished => true,
-        SenderEnd::WriteFault | SenderEnd::OutOfMemory => end_connection(rt, publisher, started.0),
+        SenderEnd::WriteFault | SenderEnd::OutOfMemory => end_connection(
+            rt,
+            publisher,
+            started.slot,
+        ),
     };
     Sent {
         taken,
@@ -64,7 +68,7 @@ pub(crate) fn send<P: Publishing, W: Sink, G: Gate, R: Wait + Clock>(
 fn hear<P: Publishing, S: Source, R: Wait>(
     rt: &R,
     publisher: &Publisher<P>,
-    slot: usize,
+    slot: SlotNumber,
     listener: &mut Listener,
     reader: &mut S,
 ) -> Option<ListenerEnd>
@@ -101,7 +105,7 @@ pub(crate) fn run_both<
 >(
     rt: &R,
     publisher: &Publisher<P>,
-    started: (usize, u64),
+    started: StreamStart,
     voice: &mut Voice,
     listener: &mut Listener,
     reader: &mut S,
@@ -117,7 +121,7 @@ pub(crate) fn run_both<
     ensures heard { HearsAll P.checked (S.left reader.old) (S.left reader.new) (S.has_failed reader.new)
         (S.has_ended reader.new) listener.old listener.new result.1 }
 {
-    let (slot, start) = started;
+    let StreamStart { slot, start } = started;
     let (why, sent) = join_mut(
         rt,
         &mut || -> Option<ListenerEnd>
@@ -132,7 +136,16 @@ pub(crate) fn run_both<
                 (map (λ commit. arc_value commit) result.taken.items) voice.exit.now
                 (started_telling P.checked slot start copy_both_response) }
             ensures failed { result.stop ≡ WriteFault → W.has_failed writer.exit.now ≡ true }
-        { send(rt, publisher, (slot, start), voice, writer, gate) },
+        {
+            send(
+                rt,
+                publisher,
+                StreamStart { slot, start },
+                voice,
+                writer,
+                gate,
+            )
+        },
     );
     (sent, why)
 }

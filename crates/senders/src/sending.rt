@@ -15,12 +15,12 @@ use crate::flushing::flush;
 use crate::gate::Gate;
 use crate::sender_end::SenderEnd;
 use crate::sink::Sink;
-use copy_both::{Taken, Voice};
+use copy_both::{StreamStart, Taken, Voice};
 use publisher_desk::{Publisher, Publishing, SenderStep};
 use std::alloc::{AllocError, Global};
 use std::sync::{Arc, Wait};
 use std::time::Clock;
-use tables_log::Commit;
+use tables_log::{Commit, SlotNumber};
 
 /// If this number of bytes wait, they are written before a further commit is taken.
 const BATCH: usize = 65_536;
@@ -34,7 +34,7 @@ const BATCH: usize = 65_536;
 fn await_step<P: Publishing, W: Sink, R: Wait>(
     rt: &R,
     publisher: &Publisher<P>,
-    slot: usize,
+    slot: SlotNumber,
     number: u64,
     is_due: bool,
     voice: &mut Voice,
@@ -91,7 +91,7 @@ fn pass_over(
 fn tell_all<P: Publishing, W: Sink, G: Gate, R: Wait + Clock>(
     rt: &R,
     publisher: &Publisher<P>,
-    started: (usize, u64),
+    started: StreamStart,
     voice: &mut Voice,
     writer: &mut W,
     gate: &G,
@@ -113,7 +113,7 @@ fn tell_all<P: Publishing, W: Sink, G: Gate, R: Wait + Clock>(
         }
         // (commits for other subscribers may come all the time, and must not hold back what waits)
         let is_due = skips > 1;
-        let Ok(step) = await_step(rt, publisher, started.0, number, is_due, voice, writer) else {
+        let Ok(step) = await_step(rt, publisher, started.slot, number, is_due, voice, writer) else {
             return (taken, SenderEnd::WriteFault);
         };
         match step {
@@ -124,7 +124,7 @@ fn tell_all<P: Publishing, W: Sink, G: Gate, R: Wait + Clock>(
                 taken.push_reserved(entry.into_commit());
                 skips = 0;
                 if let Taken::Sent(number) = told {
-                    gate.pass(started.0, number);
+                    gate.pass(started.slot, number);
                 }
             }
             SenderStep::Skip(commits) => {
@@ -158,7 +158,7 @@ fn tell_all<P: Publishing, W: Sink, G: Gate, R: Wait + Clock>(
 pub(crate) fn send_all<P: Publishing, W: Sink, G: Gate, R: Wait + Clock>(
     rt: &R,
     publisher: &Publisher<P>,
-    started: (usize, u64),
+    started: StreamStart,
     voice: &mut Voice,
     writer: &mut W,
     gate: &G,

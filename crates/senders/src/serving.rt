@@ -8,6 +8,7 @@ ghost use Rattle.senders.specs.Running.{Concludes, IsWithout, RunsOn, Streams};
 ghost use Rattle.senders.specs.Speaking.{IsQuietAt};
 ghost use Rattle.senders.specs.Serving.{IsServed};
 
+use crate::beginning::Beginning;
 use crate::end::End;
 use crate::gate::Gate;
 use crate::listener::Listener;
@@ -21,8 +22,7 @@ use crate::sink::Sink;
 use crate::slot_tasks::release_slot;
 use crate::source::Source;
 use crate::speaking::{open, say_last};
-use crate::stream_start::StreamStart;
-use copy_both::{LinkFault, Voice};
+use copy_both::{LinkFault, StreamStart, Voice};
 use publisher_desk::{Publisher, Publishing};
 use std::alloc::Global;
 use std::sync::Wait;
@@ -99,12 +99,12 @@ fn unstarted(alloc: Global, end: End) -> Served
 }
 
 /// The result of a connection for which no commit was taken.
-fn without_commits(alloc: Global, started: (usize, u64), end: End) -> Served
+fn without_commits(alloc: Global, started: StreamStart, end: End) -> Served
     ensures { IsWithout started.0 started.1 end result }
 {
     Served {
-        slot: Some(started.0),
-        start: Some(started.1),
+        slot: Some(started.slot),
+        start: Some(started.start.to_u64()),
         is_requested: false,
         taken: Vec::new(alloc),
         end,
@@ -125,7 +125,7 @@ fn unopened_end(stop: SenderEnd, why: ListenerEnd) -> End
 /// The result of a connection whose sender stopped, and whose listener ended for this reason, if it did. If its
 /// client sent CopyDone, it is answered.
 fn conclude<W: Sink>(
-    started: (usize, u64),
+    started: StreamStart,
     voice: &mut Voice,
     sent: Sent,
     why: Option<ListenerEnd>,
@@ -138,8 +138,8 @@ fn conclude<W: Sink>(
     let stop = say_last(voice, sent.stop, why, writer);
     let end = reported_cause(stop, sent.is_first, why);
     Served {
-        slot: Some(started.0),
-        start: Some(started.1),
+        slot: Some(started.slot),
+        start: Some(started.start.to_u64()),
         is_requested: false,
         taken: sent.taken,
         end,
@@ -150,7 +150,7 @@ fn conclude<W: Sink>(
 fn serve_ended<P: Publishing, W: Sink, G: Gate, R: Wait + Clock>(
     rt: &R,
     publisher: &Publisher<P>,
-    started: (usize, u64),
+    started: StreamStart,
     why: ListenerEnd,
     writer: &mut W,
     gate: &G,
@@ -179,7 +179,7 @@ fn serve_started<
 >(
     rt: &R,
     publisher: &Publisher<P>,
-    started: (usize, u64),
+    started: StreamStart,
     listener: &mut Listener,
     reader: &mut S,
     writer: &mut W,
@@ -231,12 +231,12 @@ pub fn serve<
         return unstarted(alloc, End::Link(LinkFault::OutOfMemory));
     };
     let served = match begin(rt, publisher, &mut listener, reader) {
-        StreamStart::Refused(why) => {
+        Beginning::Refused(why) => {
             answer(&listener, why, writer);
             unstarted(alloc, cause_of(why))
         }
-        StreamStart::Ended(started, why) => serve_ended(rt, publisher, started, why, writer, gate),
-        StreamStart::Started(started) => serve_started(
+        Beginning::Ended(started, why) => serve_ended(rt, publisher, started, why, writer, gate),
+        Beginning::Started(started) => serve_started(
             rt,
             publisher,
             started,

@@ -3,12 +3,12 @@
 use crate::listener::Listener;
 use publisher_desk::{ConnectionState, Publisher, Publishing, SlotTask};
 use std::sync::Wait;
-use tables_log::Book;
+use tables_log::{Book, SlotNumber};
 
 /// Ends the connection of a slot, which its sender then sees. Its answer is whether it had not ended before.
 #[derive(Drop)]
 struct EndConnection {
-    slot: usize,
+    slot: SlotNumber,
 }
 
 impl SlotTask for EndConnection {
@@ -52,7 +52,7 @@ impl SlotTask for ReleaseSlot {
 pub(crate) fn end_connection<P: Publishing, R: Wait>(
     rt: &R,
     publisher: &Publisher<P>,
-    slot: usize,
+    slot: SlotNumber,
 ) -> bool {
     publisher.with_slots(rt, &mut EndConnection { slot })
 }

@@ -8,7 +8,7 @@ use crate::flushing::flush;
 use crate::listener_end::ListenerEnd;
 use crate::sender_end::SenderEnd;
 use crate::sink::Sink;
-use copy_both::Voice;
+use copy_both::{StreamStart, Voice};
 use publisher_desk::{Publisher, Publishing};
 use std::alloc::AllocError;
 use std::sync::Arc;
@@ -31,7 +31,7 @@ fn new_voice<P: Publishing>(publisher: &Publisher<P>) -> Result<Voice, AllocErro
 /// `WriteFault` if the sink fails; `OutOfMemory`, and then nothing is written.
 pub(crate) fn open<P: Publishing, W: Sink>(
     publisher: &Publisher<P>,
-    started: (usize, u64),
+    started: StreamStart,
     writer: &mut W,
 ) -> Result<Voice, SenderEnd>
     ensures ok { IfOk result (Opens P.checked started.0 started.1 (W.taken writer.old) (W.taken writer.new)) }
@@ -40,7 +40,7 @@ pub(crate) fn open<P: Publishing, W: Sink>(
     let Ok(mut voice) = new_voice(publisher) else {
         return Err(SenderEnd::OutOfMemory);
     };
-    if voice.start(started.0, started.1).is_err() {
+    if voice.start(started.slot, started.start.to_u64()).is_err() {
         return Err(SenderEnd::OutOfMemory);
     }
     if flush(&mut voice, writer).is_err() {

@@ -12,7 +12,7 @@ use std::alloc::Global;
 use std::marker::Brand;
 use std::sync::{Arc, Wait};
 use std::test::Fail;
-use tables_log::Book;
+use tables_log::{Book, Lsn, SlotNumber};
 
 /// Counts the slots of a borrowed book.
 #[derive(Drop)]
@@ -31,24 +31,24 @@ impl SlotTask for Count {
 /// Looks up to which position the client of a slot was sent the log.
 #[derive(Drop)]
 struct SentTo {
-    slot: usize,
+    slot: SlotNumber,
 }
 
 impl SlotTask for SentTo {
-    type Answer = u64;
+    type Answer = Lsn;
 
     ghost did = { λ _ _ _ _ _ _ _. Unit {0} };
 
-    fn use_slots(&mut self, _book: &mut Book, connections: &mut [ConnectionState]) -> u64 {
+    fn use_slots(&mut self, _book: &mut Book, connections: &mut [ConnectionState]) -> Lsn {
         match connections.get(self.slot) {
             Some(connection) => connection.sent,
-            None => 0,
+            None => Lsn::new(0),
         }
     }
 }
 
 /// Up to which position the client of the slot was sent the log.
-fn sent_to<P: Publishing, R: Wait>(rt: &R, publisher: &Publisher<P>, slot: usize) -> u64 {
+fn sent_to<P: Publishing, R: Wait>(rt: &R, publisher: &Publisher<P>, slot: SlotNumber) -> Lsn {
     publisher.with_slots(rt, &mut SentTo { slot })
 }
 
@@ -144,7 +144,7 @@ fn halves<P: Publishing, R: Wait>(
     alloc: Global,
     opening: Opening,
     checked: Arc<Checked, Global>,
-) -> Result<((u32, u32, u32), (u32, u32, u32), (u64, u64)), Fail>
+) -> Result<((u32, u32, u32), (u32, u32, u32), (Lsn, Lsn)), Fail>
     requires name { opening.name ≡ P.name }
     requires parts { opening.parts ≡ P.parts }
     requires seats { opening.parts ≡ 1000 }
@@ -173,7 +173,11 @@ fn a_sender_passes_over_what_others_get(rt: HostRuntime) -> Result<(), Fail> {
     let alloc = rt.alloc();
     let checked = accepted(alloc, HALVES, &["s 0 s 1 e 0 o 0 n 1 s 1 o 1 e 0 n 1 n 0"])?;
     let told = halves::<Brand, _>(&rt, alloc, Opening::new(alloc)?, checked)?;
-    let wanted = ((1, 2_001, 0), (2_064, 2_006, 71), (128, 64 * 64 + 64));
+    let wanted = (
+        (1, 2_001, 0),
+        (2_064, 2_006, 71),
+        (Lsn::end_of_commit(1), Lsn::end_of_commit(64)),
+    );
     same(&rt, told, wanted);
     Ok(())
 }

@@ -8,7 +8,7 @@ use Rattle.std.proofs.lemmas.List.Elements.{All-nil, All-cons, All-head, All-tai
 use Rattle.shard_checker.specs.CheckedView.{setting_in}
 use Rattle.table_changes.specs.Tables.{no_rows}
 use Rattle.tables_log.specs.Commits.{CommitOf}
-use Rattle.tables_log.specs.Slots.{end_after}
+use Rattle.tables_log.specs.Lsn.{end_lsn_of}
 use Rattle.tables_log.specs.declared.slots.Slot.{Slot}
 use Rattle.copy_frames.specs.declared.status.Status.{Status}
 use Rattle.copy_both.specs.Hearing.{HearingOf, answer_by, answer_of, reported_heard, is_over, is_over_by}
@@ -64,13 +64,13 @@ module _ (case : Case) (is : IsCase case) (c : Connection) (some : (peer_of case
   -- what was sent, if the stream started, or will be if it starts now
   pub sent_by : (at : Connected case c) (start : Option ℕ) (sent : ℕ) → c.start ≡ start
       → ((begin : ℕ) → start ≡ Some begin → sent ≡ (stream_state (source_of case) begin c.moves).sent)
-      → at.reached ≤ min (sent_limit start (peer_of case).position sent) (end_after (length case.world.transactions))
+      → at.reached ≤ min (sent_limit start (peer_of case).position sent) (end_lsn_of (length case.world.transactions))
   sent_by at None sent none is_sent =
       let here : (peer_of case).position ≡ at.reached =
       sym (ap (λ start. position_after (peer_of case).position
       (whole_in c.delivered (down_items (source_of case) start c.moves))) none) ∙ at.is.reached_is in
-      subst (λ n. n ≤ min (first_sent (peer_of case).position) (end_after (length case.world.transactions))) here
-      (both (peer_of case).position (first_sent (peer_of case).position) (end_after (length case.world.transactions))
+      subst (λ n. n ≤ min (first_sent (peer_of case).position) (end_lsn_of (length case.world.transactions))) here
+      (both (peer_of case).position (first_sent (peer_of case).position) (end_lsn_of (length case.world.transactions))
       (first_reached (peer_of case).position) (omega (arith, (case_good case is).follows.within)))
   sent_by at (Some begin) sent start is_sent =
       let from : begin ≡ (peer_of case).position = subst (StartsAt (peer_of case).position) start at.is.started in
@@ -87,7 +87,7 @@ module _ (case : Case) (is : IsCase case) (c : Connection) (some : (peer_of case
       (omega (arith, (case_good case is).follows.within, log_long case)) in
       let sent_here : sent ≡ (stream_state (source_of case) (peer_of case).position c.moves).sent =
       is_sent begin refl ∙ ap (λ n. (stream_state (source_of case) n c.moves).sent) from in
-      both at.reached sent (end_after (length case.world.transactions))
+      both at.reached sent (end_lsn_of (length case.world.transactions))
       (subst (λ n. at.reached ≤ n) (sym sent_here) low)
       (omega (arith, low, ends, log_long case))
 

@@ -5,7 +5,8 @@ use Rattle.std.proofs.lemmas.Bool.{le-leb, leb-true, leb-false, le-ltb}
 use Rattle.std.proofs.lemmas.Option.{slice_get_within}
 use Rattle.std.proofs.lemmas.List.Elements.{All-nil, All-cons, All-head, All-tail, All-drop}
 use Rattle.shard_checker.specs.CheckedView.{CheckedOf}
-use Rattle.tables_log.specs.Slots.{end_after, confirmed_at, slot_fault, start_fault, change_at, with_stream}
+use Rattle.tables_log.specs.Lsn.{end_lsn_of}
+use Rattle.tables_log.specs.Slots.{confirmed_at, slot_fault, start_fault, change_at, with_stream}
 use Rattle.tables_log.specs.declared.error.StartError.TheVariants.{Ahead}
 use Rattle.copy_frames.specs.FrameLaws.{AreFrames}
 use Rattle.copy_frames.specs.Frames.{framed}
@@ -198,7 +199,7 @@ module _ (case : Case) (is : IsCase case) (c : Connection) (commits : ℕ) (h : 
     pub asked : IsAsked c.heard (asking_length (source_of case) (peer_of case).position) c.start
     pub starts : c.start ≡ None → (peer_of case).confirmed ≤ (peer_of case).position
     pub low : (limit : ℕ) → sent_limit c.start (peer_of case).position h.sent ≡ limit
-        → All (IsWithin (min limit (end_after commits))) c.reports
+        → All (IsWithin (min limit (end_lsn_of commits))) c.reports
 
   module _ (before : Before) (more : ℕ) where
     abbrev new : List Up
@@ -263,7 +264,7 @@ module _ (case : Case) (is : IsCase case) (c : Connection) (commits : ℕ) (h : 
     start_stays_so (status ∷ statuses) session = start_stays_so statuses (hear_up case.now session (Says status))
 
     statuses_come : (at : ℕ) → c.start ≡ Some at → (statuses : List Status)
-        → All (IsWithin (min h.sent (end_after commits))) statuses
+        → All (IsWithin (min h.sent (end_lsn_of commits))) statuses
         → Comes (map Says statuses)
         (frames_heard served_of h (map (up_frame case.checked case.number) (map Says statuses)))
     statuses_come at start statuses within =
@@ -284,16 +285,16 @@ module _ (case : Case) (is : IsCase case) (c : Connection) (commits : ℕ) (h : 
               (goes.own (peer_of case).confirmed (is_some c.start) before.slot);
         }
 
-    free : c.start ≡ None → start_fault h.slots (end_after commits) case.number (peer_of case).position ≡ None
+    free : c.start ≡ None → start_fault h.slots (end_lsn_of commits) case.number (peer_of case).position ≡ None
     free none =
-        ap (λ found. slot_fault found (end_after commits) (peer_of case).position) before.slot
+        ap (λ found. slot_fault found (end_lsn_of commits) (peer_of case).position) before.slot
         ∙ ap (λ start. slot_fault (Some (record { confirmed = (peer_of case).confirmed; taken = is_some start }))
-        (end_after commits) (peer_of case).position) none
-        ∙ ap (λ b. if b then Some Ahead else None) (le-ltb (end_after commits) (peer_of case).position
+        (end_lsn_of commits) (peer_of case).position) none
+        ∙ ap (λ b. if b then Some Ahead else None) (le-ltb (end_lsn_of commits) (peer_of case).position
         (omega (arith, (case_good case is).follows.within, before.commits_is)))
 
     command_comes : c.start ≡ None → (statuses : List Status)
-        → All (IsWithin (min (first_sent (peer_of case).position) (end_after commits))) statuses
+        → All (IsWithin (min (first_sent (peer_of case).position) (end_lsn_of commits))) statuses
         → Comes (Asks (peer_of case).position ∷ map Says statuses)
         (frames_heard served_of h
         (map (up_frame case.checked case.number) (Asks (peer_of case).position ∷ map Says statuses)))
@@ -315,8 +316,8 @@ module _ (case : Case) (is : IsCase case) (c : Connection) (commits : ℕ) (h : 
         let sent : first.sent ≡ first_sent position = ap (λ (its : HearingOf). its.sent) step in
         let slots : first.slots ≡ change_at h.slots case.number (with_stream true) =
         ap (λ (its : HearingOf). its.slots) step in
-        let low : All (IsWithin (min first.sent (end_after commits))) statuses =
-        subst (λ n. All (IsWithin (min n (end_after commits))) statuses) (sym sent) within in
+        let low : All (IsWithin (min first.sent (end_lsn_of commits))) statuses =
+        subst (λ n. All (IsWithin (min n (end_lsn_of commits))) statuses) (sym sent) within in
         let heard = statuses_are_heard served_of case.number position case.now c.moves statuses first one.0.hearing
         started low in
         let goes = statuses_go served_of case.number position case.now c.moves statuses first one.0.hearing started
@@ -363,13 +364,13 @@ module _ (case : Case) (is : IsCase case) (c : Connection) (commits : ℕ) (h : 
     new_comes (Command none long count e) =
         comes_by (Asks (peer_of case).position ∷ map Says (some_of case.checked case.number 0 count c.reports)) e
         (command_comes none (some_of case.checked case.number 0 count c.reports)
-        (some_within 0 count (min (first_sent (peer_of case).position) (end_after commits))
+        (some_within 0 count (min (first_sent (peer_of case).position) (end_lsn_of commits))
         (before.low (first_sent (peer_of case).position)
         (ap (λ start. sent_limit start (peer_of case).position h.sent) none))))
     new_comes (Statuses at start long done count e) =
         comes_by (map Says (some_of case.checked case.number done count c.reports)) e
         (statuses_come at start (some_of case.checked case.number done count c.reports)
-        (some_within done count (min h.sent (end_after commits))
+        (some_within done count (min h.sent (end_lsn_of commits))
         (before.low h.sent (ap (λ start. sent_limit start (peer_of case).position h.sent) start))))
 
     -- what was heard is as in the world

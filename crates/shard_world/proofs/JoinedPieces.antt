@@ -1,9 +1,9 @@
 -- A piece that a subscriber sent is heard at the publisher's end of the connection as in the world.
-use Rattle.std.proofs.Common.{◌≡◌, ℕ, ◌+◌, ◌<◌, ◌≤◌, ◌^◌, min, List, [], ◌∷◌, ◌++◌, drop, length, map, take, refl, sym, ap, subst, ◌∙◌, arith, length-drop}
+use Rattle.std.proofs.Common.{◌≡◌, ℕ, ◌+◌, ◌≤◌, min, List, [], ◌++◌, drop, length, map, take, refl, sym, ap, subst, ◌∙◌, arith, length-drop}
 use Rattle.std.specs.Prelude.{Option, Some, None, Ok, fold, is_some, slice_get, unwrap_or}
 use Rattle.std.proofs.lemmas.List.{drop-drop, length-take-le}
 use Rattle.tables_log.specs.BookView.{book_log, book_slots}
-use Rattle.tables_log.specs.Slots.{end_after}
+use Rattle.tables_log.specs.Lsn.{end_lsn_of}
 use Rattle.tables_log.specs.declared.book.Book.{Book}
 use Rattle.copy_frames.specs.Frames.{Rest, cut, after_frames, cut_fault, frames_of, rest_of}
 use Rattle.copy_frames.specs.Inboxes.{Inbox}
@@ -19,7 +19,6 @@ use Rattle.copy_both.specs.Voices.{sent_of}
 use Rattle.copy_both.specs.declared.heard.Heard.{Heard}
 use Rattle.copy_both.specs.declared.link.Link.{Link}
 use Rattle.copy_both.specs.declared.phase.Phase.TheVariants as phase
-use Rattle.copy_both.proofs.LinkStreams.{hears}
 use Rattle.test_subscriber.specs.Feeding.{limit}
 use Rattle.test_subscriber.specs.Frames.{hear_cut}
 use Rattle.test_subscriber.specs.Machine.{opened}
@@ -40,7 +39,7 @@ use Rattle.shard_world.proofs.JoinedFeeding.{Connected, connected}
 use Rattle.shard_world.proofs.JoinedHearing.{After, Before, Command, NewOf, Nothing, Statuses, heard_after, sent_limit, some_of, served_of, ups_are_frames, what_is_new}
 use Rattle.shard_world.proofs.JoinedSteps.{ok_of, steps_to, still_named}
 use Rattle.copy_both.proofs.FrameRuns.{end_over}
-use Rattle.shard_world.proofs.HeardStreams.{log_long, both, reached_small, sent_by, statuses_within, not_over, SpeaksOn, went_on, begins, still_waits}
+use Rattle.shard_world.proofs.HeardStreams.{log_long, reached_small, sent_by, statuses_within, not_over, SpeaksOn, went_on, begins, still_waits}
 
 -- ---- hear
 
@@ -113,11 +112,11 @@ module _ (case : Case) (is : IsCase case) (before after : Book) (old : PeerOf) (
     slot = linked.slot;
     asked = linked.hears.asked;
     starts = λ none. subst (λ n. (peer_of case).confirmed ≤ n) (unstarted none) at.is.confirmed_is;
-    low = λ limit e. statuses_within case is connection here.some (min limit (end_after commits)) at.reached
+    low = λ limit e. statuses_within case is connection here.some (min limit (end_lsn_of commits)) at.reached
         (reached_small case is connection here.some at)
-        (subst (λ n. at.reached ≤ min n (end_after commits)) e
+        (subst (λ n. at.reached ≤ min n (end_lsn_of commits)) e
         (subst (λ n. at.reached ≤ min (sent_limit connection.start (peer_of case).position (link_sent link))
-        (end_after n)) (sym commits_are)
+        (end_lsn_of n)) (sym commits_are)
         (sent_by case is connection here.some at connection.start (link_sent link) refl sent_is)))
         connection.reports at.is.reports linked.hears.statuses;
   }

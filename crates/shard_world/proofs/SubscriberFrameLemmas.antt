@@ -6,7 +6,8 @@ use Rattle.std.proofs.lemmas.Bool.Decides.{nat_tests}
 use Rattle.std.proofs.lemmas.List.{replicate-append-replicate}
 use Rattle.std.proofs.lemmas.List.Elements.{All-head, All-tail}
 use Rattle.pub_catalog.specs.declared.catalog.Subscription.{Subscription}
-use Rattle.tables_log.specs.Slots.{end_after, confirmed_of, confirmed_at, start_fault, changed, started, raised, with_stream, confirmed_up_to}
+use Rattle.tables_log.specs.Lsn.{end_lsn_of}
+use Rattle.tables_log.specs.Slots.{confirmed_of, confirmed_at, start_fault, changed, started, raised, with_stream, confirmed_up_to}
 use Rattle.tables_log.specs.declared.slots.Slot.{Slot}
 use Rattle.copy_frames.proofs.ContentLemmas.{status_is_read}
 use Rattle.copy_frames.specs.declared.status.Status.{Status}
@@ -65,10 +66,10 @@ module _ (served : ServedFrom) (subscriber start now : ℕ) (moves : List Move) 
   after status h = confirmed_by false subscriber status h
 
   status_step : (status : Status) (h : HearingOf) → is_over h ≡ false → h.started ≡ Some (subscriber, start)
-      → IsWithin (min h.sent (end_after served.commits)) status
+      → IsWithin (min h.sent (end_lsn_of served.commits)) status
       → frame_heard served h (up_frame served.checked subscriber (Says status)) ≡ after status h
   status_step status h goes_on is within =
-      let reached : nat_lt (min h.sent (end_after served.commits)) status.flushed ≡ false =
+      let reached : nat_lt (min h.sent (end_lsn_of served.commits)) status.flushed ≡ false =
       grind (arith, nat_tests, within.reached) in
       ap (λ over. unless_over over h
       (next_heard served (up_frame served.checked subscriber (Says status)) h.started h)) goes_on
@@ -95,7 +96,7 @@ module _ (served : ServedFrom) (subscriber start now : ℕ) (moves : List Move) 
   }
 
   all_heard : (statuses : List Status) (h : HearingOf) → IsHearing subscriber h → h.started ≡ Some (subscriber, start)
-      → All (IsWithin (min h.sent (end_after served.commits))) statuses
+      → All (IsWithin (min h.sent (end_lsn_of served.commits))) statuses
       → IsHeard subscriber now moves
       (frames_heard served h (map (up_frame served.checked subscriber) (map Says statuses)))
       (fold (hear_up now) (session_of subscriber now moves h) (map Says statuses))
@@ -103,10 +104,10 @@ module _ (served : ServedFrom) (subscriber start now : ℕ) (moves : List Move) 
   all_heard [] h hearing is within = record { hearing = hearing; session_is = refl }
   all_heard (status ∷ statuses) h hearing is within =
       let step = status_step status h hearing.goes_on is
-      (All-head (IsWithin (min h.sent (end_after served.commits))) status statuses within) in
+      (All-head (IsWithin (min h.sent (end_lsn_of served.commits))) status statuses within) in
       let same = status_session status h hearing.is_there in
       let later = all_heard statuses (after status h) (still_hearing status h hearing) is
-      (All-tail (IsWithin (min h.sent (end_after served.commits))) status statuses within) in
+      (All-tail (IsWithin (min h.sent (end_lsn_of served.commits))) status statuses within) in
       subst (λ next. IsHeard subscriber now moves
       (frames_heard served next (map (up_frame served.checked subscriber) (map Says statuses)))
       (fold (hear_up now) (hear_up now (session_of subscriber now moves h) (Says status)) (map Says statuses)))
@@ -123,7 +124,7 @@ statuses_are_heard served subscriber start now moves statuses h hearing is withi
 
 pub start_step : (served : ServedFrom) (subscriber position : ℕ) (subscription : Subscription) (h : HearingOf)
     → CanAsk served.checked.catalog subscriber subscription → position < 2 ^ 64
-    → start_fault h.slots (end_after served.commits) subscriber position ≡ None → is_over h ≡ false → h.started ≡ None
+    → start_fault h.slots (end_lsn_of served.commits) subscriber position ≡ None → is_over h ≡ false → h.started ≡ None
     → frame_heard served h (up_frame served.checked subscriber (Asks position))
     ≡ begun (Begins subscriber (max position (confirmed_at h.slots subscriber))) h
 start_step served subscriber position subscription h can small free goes_on none =
@@ -189,14 +190,14 @@ slots_both number first second last one two = record {
 module _ (served : ServedFrom) (subscriber start now : ℕ) (moves : List Move) where
   pub statuses_go : (statuses : List Status) (h : HearingOf) → IsHearing subscriber h
       → h.started ≡ Some (subscriber, start)
-      → All (IsWithin (min h.sent (end_after served.commits))) statuses
+      → All (IsWithin (min h.sent (end_lsn_of served.commits))) statuses
       → SlotsGo subscriber h.slots
       (frames_heard served h (map (up_frame served.checked subscriber) (map Says statuses))).slots
   unfolding frames_heard
   statuses_go [] h hearing is within = slots_stay subscriber h.slots
   statuses_go (status ∷ statuses) h hearing is within =
       let step = status_step served subscriber start now moves status h hearing.goes_on is
-      (All-head (IsWithin (min h.sent (end_after served.commits))) status statuses within) in
+      (All-head (IsWithin (min h.sent (end_lsn_of served.commits))) status statuses within) in
       let next = confirmed_by false subscriber status h in
       subst (λ its. SlotsGo subscriber h.slots
       (frames_heard served its (map (up_frame served.checked subscriber) (map Says statuses))).slots) (sym step)
@@ -204,4 +205,4 @@ module _ (served : ServedFrom) (subscriber start now : ℕ) (moves : List Move) 
       (frames_heard served next (map (up_frame served.checked subscriber) (map Says statuses))).slots
       (slots_rise subscriber h.slots next.slots status.flushed refl)
       (statuses_go statuses next (still_hearing served subscriber start now moves status h hearing) is
-      (All-tail (IsWithin (min h.sent (end_after served.commits))) status statuses within)))
+      (All-tail (IsWithin (min h.sent (end_lsn_of served.commits))) status statuses within)))

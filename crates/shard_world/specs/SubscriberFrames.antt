@@ -2,7 +2,8 @@
 -- 55.4. Streaming Replication Protocol (START_REPLICATION, Standby status update).
 use Rattle.std.specs.Prelude.{◌≡◌, ◌<◌, ◌≤◌, ◌^◌, ℕ, max, min, false, List, ◌++◌, All, fold, length, map, replicate, Option, Some, None}
 use Rattle.pub_catalog.specs.declared.catalog.Subscription.{Subscription}
-use Rattle.tables_log.specs.Slots.{end_after, confirmed_at, start_fault}
+use Rattle.tables_log.specs.Lsn.{end_lsn_of}
+use Rattle.tables_log.specs.Slots.{confirmed_at, start_fault}
 use Rattle.copy_frames.specs.declared.status.Status.{Status}
 use Rattle.copy_both.specs.Hearing.{HearingOf, ServedFrom, frame_heard, frames_heard, is_over}
 use Rattle.copy_both.specs.Streams.{Move, Keep, first_sent}
@@ -56,7 +57,7 @@ abbrev pub StartsAreHeard : Type 0
 StartsAreHeard = (served : ServedFrom) (subscriber position now : ℕ) (subscription : Subscription) (moves : List Move)
     (h : HearingOf)
     → CanAsk served.checked.catalog subscriber subscription → position < 2 ^ 64
-    → start_fault h.slots (end_after served.commits) subscriber position ≡ None
+    → start_fault h.slots (end_lsn_of served.commits) subscriber position ≡ None
     → IsHearing subscriber h → h.started ≡ None
     → IsHeard subscriber now moves (frame_heard served h (up_frame served.checked subscriber (Asks position)))
     (hear_up now (session_of subscriber now moves h) (Asks position))
@@ -68,7 +69,7 @@ abbrev pub StatusesAreHeard : Type 0
 StatusesAreHeard = (served : ServedFrom) (subscriber start now : ℕ) (moves : List Move) (statuses : List Status)
     (h : HearingOf)
     → IsHearing subscriber h → h.started ≡ Some (subscriber, start)
-    → All (IsWithin (min h.sent (end_after served.commits))) statuses
+    → All (IsWithin (min h.sent (end_lsn_of served.commits))) statuses
     → IsHeard subscriber now moves
     (frames_heard served h (map (up_frame served.checked subscriber) (map Says statuses)))
     (fold (hear_up now) (session_of subscriber now moves h) (map Says statuses))

@@ -11,13 +11,13 @@ use std::alloc::{AllocError, Global};
 use tables_log::{Book, Lsn};
 use test_subscriber::Subscriber;
 
-/// What is in a subscriber: its position in the log, in bytes, how many commits that counts, the position up to which
-/// its slot is confirmed, in bytes, and for each table of the catalog its rows, in their order.
+/// What is in a subscriber: its position in the log, how many commits that counts, the position up to which its slot is
+/// confirmed, and for each table of the catalog its rows, in their order.
 #[derive(Debug, Drop, PartialEq, Eq)]
 pub struct SubscriberView {
-    pub position: u64,
+    pub position: Lsn,
     pub applied: u64,
-    pub confirmed: u64,
+    pub confirmed: Lsn,
     pub rows: Vec<Vec<Row>>,
 }
 
@@ -72,11 +72,11 @@ fn seen_of(
     requires { tables ≤ 64 }
     ensures { IfOk result (IsSeen book.now tables number subscriber.now) }
 {
-    let position = subscriber.position();
+    let position = Lsn::new(subscriber.position());
     Ok(SubscriberView {
         position,
-        applied: Lsn::new(position).commits_before(),
-        confirmed: book.confirmed(number),
+        applied: position.commits_before(),
+        confirmed: Lsn::new(book.confirmed(number)),
         rows: rows_of_copies(alloc, subscriber, tables)?,
     })
 }

@@ -15,7 +15,7 @@ use shard_checker::Checked;
 use std::alloc::{AllocError, Global};
 use std::sync::Arc;
 use table_changes::Command;
-use tables_log::Book;
+use tables_log::{Book, Lsn};
 
 /// All that a subscriber sent is heard.
 const HEAR_ALL: PeerEvent = PeerEvent::Hear { bytes: usize::MAX };
@@ -194,12 +194,12 @@ impl World {
 
     /// The position of a subscriber.
     #[tactic(auto, using(crate::proofs::ViewLemmas::position_shown, crate::proofs::ViewLemmas::nobody_shown))]
-    fn position(&self, subscriber: SubscriberNumber) -> u64
+    fn position(&self, subscriber: SubscriberNumber) -> Lsn
         ensures { IsPosition self.now subscriber result }
     {
         match self.peers.get(subscriber) {
-            Some(peer) => peer.subscriber.position(),
-            None => 0,
+            Some(peer) => Lsn::new(peer.subscriber.position()),
+            None => Lsn::new(0),
         }
     }
 
@@ -211,7 +211,7 @@ impl World {
         ensures { PumpsFromEach self.old self.new now subscriber result }
     {
         match self.pump_through(now, subscriber) {
-            Ok(()) => Answer::At(self.position(subscriber)),
+            Ok(()) => Answer::At(self.position(subscriber).to_u64()),
             Err(answer) => answer,
         }
     }

@@ -9,7 +9,8 @@ use Rattle.filter_tree.specs.Expr.{Expr}
 use Rattle.pub_catalog.specs.CatalogLimits.{IsPlainName}
 use Rattle.pub_catalog.specs.Catalogs.{PublicationOf}
 use Rattle.pub_catalog.specs.declared.catalog.Subscription.{Subscription}
-use Rattle.tables_log.specs.Slots.{end_after, confirmed_at, slot_fault, start_fault}
+use Rattle.tables_log.specs.Lsn.{end_lsn_of}
+use Rattle.tables_log.specs.Slots.{confirmed_at, slot_fault, start_fault}
 use Rattle.tables_log.specs.declared.slots.Slot.{Slot}
 use Rattle.copy_both.specs.CommandText.{command_of}
 use Rattle.copy_both.specs.Hearing.{ServedFrom, Begins, offer_in, unless_fault, begin_by, begin_of}
@@ -144,7 +145,7 @@ not_ahead (Some slot) end position e =
 
 module _ (served : ServedFrom) (slots : List Slot) (subscriber position : ℕ) (subscription : Subscription)
     (can : CanAsk served.checked.catalog subscriber subscription)
-    (small : position < 2 ^ 64) (free : start_fault slots (end_after served.commits) subscriber position ≡ None) where
+    (small : position < 2 ^ 64) (free : start_fault slots (end_lsn_of served.commits) subscriber position ≡ None) where
   abbrev names : List (List ℕ)
   names = map (called served.checked.catalog.publications) subscription.publications
 
@@ -157,7 +158,7 @@ module _ (served : ServedFrom) (slots : List Slot) (subscriber position : ℕ) (
       rw (
         names_known served.checked.catalog.publications subscription.publications can.known,
         names_same served.checked.catalog.publications subscription.publications can.known,
-        not_ahead (slice_get slots subscriber) (end_after served.commits) position free,
+        not_ahead (slice_get slots subscriber) (end_lsn_of served.commits) position free,
       ) refl
 
   plain : All IsPlainName names

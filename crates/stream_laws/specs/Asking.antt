@@ -7,7 +7,8 @@ use Rattle.pub_catalog.specs.CatalogLimits.{IsLimited, IsPlainName}
 use Rattle.pub_catalog.specs.CatalogNames.{IsNamedCatalog}
 use Rattle.pub_catalog.specs.Catalogs.{CatalogOf}
 use Rattle.pub_catalog.specs.declared.catalog.Subscription.{Subscription}
-use Rattle.tables_log.specs.Slots.{end_after, confirmed_at, start_fault}
+use Rattle.tables_log.specs.Lsn.{end_lsn_of}
+use Rattle.tables_log.specs.Slots.{confirmed_at, start_fault}
 use Rattle.tables_log.specs.declared.slots.Slot.{Slot}
 use Rattle.copy_both.specs.CommandText.{command_of}
 use Rattle.copy_both.specs.declared.start_command.OptionValue.TheVariants.{Version, Publications}
@@ -53,7 +54,7 @@ pub record CanAsk (catalog : CatalogOf Expr) (subscriber : ℕ) (subscription : 
 abbrev pub StartsAreAnswered : Type 0
 StartsAreAnswered = (served : ServedFrom) (slots : List Slot) (subscriber position : ℕ) (subscription : Subscription)
     → CanAsk served.checked.catalog subscriber subscription
-    → position < 2 ^ 64 → start_fault slots (end_after served.commits) subscriber position ≡ None
+    → position < 2 ^ 64 → start_fault slots (end_lsn_of served.commits) subscriber position ≡ None
     → begin_of served slots (up_frame served.checked subscriber (Asks position)).kind
     (up_frame served.checked subscriber (Asks position)).body
     ≡ Begins subscriber (max position (confirmed_at slots subscriber))

@@ -23,7 +23,8 @@ use Rattle.tables_log.specs.Committing.{IsTransaction, RefusedBy}
 use Rattle.tables_log.specs.Logs.{entry_at, IsNumbered}
 use Rattle.tables_log.specs.Places.{kept_at, seen_at, maps_of, kept_in, seen_in, widths, KeepsTables, SettlesTables, DiscardsTables}
 use Rattle.tables_log.specs.Settling.{are_named, IsSettled, IsSettledBut}
-use Rattle.tables_log.specs.Slots.{end_after, confirmed_at, IsBounded}
+use Rattle.tables_log.specs.Lsn.{end_lsn_of}
+use Rattle.tables_log.specs.Slots.{confirmed_at, IsBounded}
 use Rattle.tables_log.specs.declared.book.Book.{Book}
 use Rattle.tables_log.specs.declared.error.CommitError.{CommitError}
 use Rattle.tables_log.specs.declared.error.CommitError.TheVariants as e
@@ -93,7 +94,7 @@ numbered_more log commit is numbered place found at = by_test (place == length l
 
 pub bounded_more : (slots : List Slot) (commits more : ℕ) → commits ≤ more → IsBounded slots commits
     → IsBounded slots more
-bounded_more slots commits more longer bounded number = let low : confirmed_at slots number ≤ end_after commits =
+bounded_more slots commits more longer bounded number = let low : confirmed_at slots number ≤ end_lsn_of commits =
     bounded number in omega arith
 
 -- ---- commits

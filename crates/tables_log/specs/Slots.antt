@@ -1,14 +1,10 @@
 -- Slots and the positions up to which they are confirmed: PostgreSQL 15, "Logical Replication", 31.2.1 Replication
--- Slot Management, and 27.2.6 Replication Slots. Commit n, from 1, is at position 64 * n, and ends at 64 * n + 64
--- (the project's own).
-use Rattle.std.specs.Prelude.{ℕ, ◌+◌, ◌*◌, ◌≤◌, max, nat_lt, Bool, true, false, List, slice_get, slice_set, Option, Some, None, if◌then◌else◌}
+-- Slot Management, and 27.2.6 Replication Slots.
+use Rattle.std.specs.Prelude.{ℕ, ◌≤◌, max, nat_lt, Bool, true, false, List, slice_get, slice_set, Option, Some, None, if◌then◌else◌}
+use Rattle.tables_log.specs.Lsn.{end_lsn_of}
 use Rattle.tables_log.specs.declared.error.StartError.{StartError}
 use Rattle.tables_log.specs.declared.error.StartError.TheVariants.{NoSlot, Ahead, InUse}
 use Rattle.tables_log.specs.declared.slots.Slot.{Slot}
-
--- where a log of this number of commits ends
-abbrev pub end_after : ℕ → ℕ
-end_after commits = 64 * commits + 64
 
 abbrev pub confirmed_of : Option Slot → ℕ
 confirmed_of None = 0
@@ -20,7 +16,7 @@ confirmed_at slots number = confirmed_of (slice_get slots number)
 
 -- no slot is confirmed after the end of a log of this number of commits
 abbrev pub IsBounded : List Slot → ℕ → Type 0
-IsBounded slots commits = (number : ℕ) → confirmed_at slots number ≤ end_after commits
+IsBounded slots commits = (number : ℕ) → confirmed_at slots number ≤ end_lsn_of commits
 
 -- ---- start
 

@@ -15,7 +15,7 @@ ghost use Rattle.tables_log.specs.Places.{seen_at, values_in, PutsRow};
 use crate::error::{CommandFault, Refused};
 use crate::table_row::TableRow;
 use crate::table_rows::TableRows;
-use filter_tree::{Row, Table, copy_row, valid};
+use filter_tree::{Row, Table, TableNumber, copy_row, valid};
 use replica_identity::{Change, SharedRow, old_part};
 use shard_checker::Checked;
 use std::alloc::Global;
@@ -85,7 +85,7 @@ fn replace(
 }
 
 /// The table of this number.
-fn known(checked: &Checked, number: usize) -> Result<&Table, CommandFault>
+fn known(checked: &Checked, number: TableNumber) -> Result<&Table, CommandFault>
     ensures known { IfOk result (λ table. slice_get (checked_view checked.now).catalog.tables number ≡ Some table.now) }
     ensures unknown { IfErr result (λ fault. fault ≡ CommandFault.NoTable) }
     ensures none { IfErr result (λ _. slice_get (checked_view checked.now).catalog.tables number ≡ None) }
@@ -100,7 +100,7 @@ fn known(checked: &Checked, number: usize) -> Result<&Table, CommandFault>
 fn insert_in(
     alloc: Global,
     table: &Table,
-    number: usize,
+    number: TableNumber,
     rows: &mut TableRows,
     row: &Row,
 ) -> Result<Change, Refused>
@@ -123,7 +123,7 @@ fn insert_in(
 fn update_in(
     alloc: Global,
     table: &Table,
-    number: usize,
+    number: TableNumber,
     rows: &mut TableRows,
     key: &Row,
     row: &Row,
@@ -149,7 +149,7 @@ fn update_in(
 fn delete_in(
     alloc: Global,
     table: &Table,
-    number: usize,
+    number: TableNumber,
     rows: &mut TableRows,
     key: &Row,
 ) -> Result<Change, Refused>
@@ -171,7 +171,7 @@ pub(crate) fn insert(
     alloc: Global,
     checked: &Checked,
     tables: &mut [TableRows],
-    number: usize,
+    number: TableNumber,
     row: &Row,
 ) -> Result<Change, Refused>
     requires { HasMaps (checked_view checked.now).catalog.tables tables.old }
@@ -187,7 +187,7 @@ pub(crate) fn update(
     alloc: Global,
     checked: &Checked,
     tables: &mut [TableRows],
-    number: usize,
+    number: TableNumber,
     key: &Row,
     row: &Row,
 ) -> Result<Change, Refused>
@@ -204,7 +204,7 @@ pub(crate) fn delete(
     alloc: Global,
     checked: &Checked,
     tables: &mut [TableRows],
-    number: usize,
+    number: TableNumber,
     key: &Row,
 ) -> Result<Change, Refused>
     requires { HasMaps (checked_view checked.now).catalog.tables tables.old }

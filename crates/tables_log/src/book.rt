@@ -13,10 +13,12 @@ ghost use Rattle.tables_log.specs.Slots.{IsBounded};
 use crate::commit::Commit;
 use crate::committing::{check_count, commit_tables, empty_tables};
 use crate::error::{CommitError, StartError, StatusAhead};
+use crate::lsn::{CommitNumber, Lsn};
 use crate::routed::{Routed, entries_after, passed_over};
-use crate::slots::{self, Slot};
+use crate::slots::{self, Slot, SlotNumber};
 use crate::table_rows::TableRows;
-use filter_tree::Row;
+use filter_tree::{Row, TableNumber};
+use pub_catalog::SubscriberNumber;
 use row_owners::{OwnerSet, Router};
 use shard_checker::Checked;
 use std::alloc::{AllocError, Global};
@@ -65,7 +67,8 @@ impl Book {
     ghost use Rattle.tables_log.specs.Places.{IsInOrder};
     ghost use Rattle.tables_log.specs.Routes as spec;
     ghost use Rattle.tables_log.specs.Routes.{commit_in, gets_some, ArePassed, IsRouted};
-    ghost use Rattle.tables_log.specs.Slots.{end_after, confirmed_at, start_fault, started, released, confirmed_up_to};
+    ghost use Rattle.tables_log.specs.Lsn.{end_lsn_of};
+    ghost use Rattle.tables_log.specs.Slots.{confirmed_at, start_fault, started, released, confirmed_up_to};
 
     /// A book of the catalog's tables, without rows, with an empty log that may have at most `limit` commits, and with
     /// a slot for each subscription, for which nothing is confirmed. The only error is out of memory.
@@ -78,7 +81,7 @@ impl Book {
         let catalog = checked.catalog();
         let tables = empty_tables(alloc, catalog.tables.as_slice())?;
         let free = Slot {
-            confirmed: 0,
+            confirmed: Lsn::new(0),
             taken: false,
         };
         let slots = vec![in alloc; free; catalog.subscriptions.len()]?;
@@ -108,7 +111,7 @@ impl Book {
     ///
     /// PostgreSQL 15, 3.4. Transactions, and Chapter 6 Data Manipulation.
     #[tactic(auto, using(crate::proofs::Rules::committing))]
-    pub fn commit(&mut self, commands: &[Command], time: u64) -> Result<u32, CommitError>
+    pub fn commit(&mut self, commands: &[Command], time: u64) -> Result<CommitNumber, CommitError>
         ensures ok { IfOk result (λ number. Commits self.old self.new (map command_view commands.now) time number) }
         ensures refused { IfErr result (RefusedBy self.old (map command_view commands.now)) }
         ensures memory { NeedsMemoryOnlyIf CommitError.OutOfMemory
@@ -147,7 +150,7 @@ impl Book {
     }
 
     /// The number of commits in the log, which is also the number of the last one.
-    pub fn log_len(&self) -> u32
+    pub fn log_len(&self) -> CommitNumber
         ensures shows { result ≡ length (book_log self.now) }
         ensures room { result ≤ book_limit self.now }
         ensures within { book_limit self.now ≤ 1000000000 }
@@ -158,7 +161,7 @@ impl Book {
 
     /// The commit of this number: `Some` for 1 to `log_len()`.
     #[tactic(auto, using(crate::proofs::BookLemmas::found_numbered))]
-    pub fn entry(&self, number: u32) -> Option<&Commit>
+    pub fn entry(&self, number: CommitNumber) -> Option<&Commit>
         ensures shows { option_map (λ commit. commit.now) result ≡ entry_at (book_log self.now) number }
         ensures numbered { IfSome result (λ commit. commit.now.number ≡ number) }
     {
@@ -171,7 +174,7 @@ impl Book {
     /// Another reference to the commit of this number: `Some` for 1 to `log_len()`. The only error is that an existing
     /// commit is shared too often.
     #[tactic(auto, using(crate::proofs::BookLemmas::found_numbered))]
-    pub fn shared(&self, number: u32) -> Result<Option<Arc<Commit, Global>>, AllocError>
+    pub fn shared(&self, number: CommitNumber) -> Result<Option<Arc<Commit, Global>>, AllocError>
         ensures shows { IfOk result (λ found. option_map (λ commit. arc_value commit) found ≡ entry_at
             (book_log self.now) number) }
         ensures numbered { IfOk result (λ found. IfSome found (λ commit. (arc_value commit).number ≡ number)) }
@@ -186,7 +189,7 @@ impl Book {
     /// The entry of this number: `Some` for 1 to `log_len()`. The only error is that an existing entry is shared too
     /// often.
     #[tactic(auto, using(crate::proofs::BookLemmas::found_numbered))]
-    pub fn routed(&self, number: u32) -> Result<Option<Routed>, AllocError>
+    pub fn routed(&self, number: CommitNumber) -> Result<Option<Routed>, AllocError>
         ensures shows { IfOk result (λ found. option_map (λ entry. commit_in entry) found ≡ entry_at
             (book_log self.now) number) }
         ensures routed { IfOk result (λ found. IfSome found (IsRouted (book_checked self.now).plan)) }
@@ -202,7 +205,7 @@ impl Book {
     /// The subscribers that get something of the commit of this number; none if there is no such commit.
     ///
     /// PostgreSQL 15, "Logical Replication", 31.3.3 UPDATE Transformations.
-    pub fn concerned(&self, number: u32) -> OwnerSet
+    pub fn concerned(&self, number: CommitNumber) -> OwnerSet
         ensures { OwnedWhere result (gets_some (book_checked self.now).plan (entry_at (book_log self.now) number)) }
     {
         match self.place(number) {
@@ -218,8 +221,8 @@ impl Book {
     /// The only errors are out of memory, and that a commit is shared too often.
     pub fn passed_over(
         &self,
-        subscriber: usize,
-        done: u32,
+        subscriber: SubscriberNumber,
+        done: CommitNumber,
     ) -> Result<Vec<Arc<Commit, Global>>, AllocError>
         requires { subscriber < 32 }
         ensures shows { IfOk result (λ commits. map (λ commit. arc_value commit) commits.items
@@ -234,7 +237,7 @@ impl Book {
 
     /// The row of the table that has this primary key, if there is one. The key has its values in the order of the
     /// primary key's columns.
-    pub fn row(&self, table: usize, key: &Row) -> Option<&Row>
+    pub fn row(&self, table: TableNumber, key: &Row) -> Option<&Row>
         ensures { option_map (λ row. row.now) result ≡ book_rows self.now table 0 key.now }
     {
         match self.tables.get(table) {
@@ -248,7 +251,7 @@ impl Book {
     /// out of memory.
     ///
     /// PostgreSQL 15, 7.5 Sorting Rows.
-    pub fn rows(&self, table: usize) -> Result<Vec<Row>, AllocError>
+    pub fn rows(&self, table: TableNumber) -> Result<Vec<Row>, AllocError>
         ensures shows { IfOk result (λ rows. IsInOrder (book_listed self.now table) rows.items) }
         ensures found { OnOk result (ListsFound (book_rows self.now table 0) (book_listed self.now table)) }
     {
@@ -260,11 +263,11 @@ impl Book {
 
     /// The position up to which the slot's subscriber has confirmed the log, which is at most 64 * log_len() + 64; 0 if
     /// nothing is confirmed, or there is no such slot.
-    pub fn confirmed(&self, slot: usize) -> u64
+    pub fn confirmed(&self, slot: SlotNumber) -> u64
         ensures shows { result ≡ confirmed_at (book_slots self.now) slot }
-        ensures bounded { result ≤ end_after (length (book_log self.now)) }
+        ensures bounded { result ≤ end_lsn_of (length (book_log self.now)) }
     {
-        slots::confirmed(&self.slots, slot)
+        slots::confirmed(&self.slots, slot).to_u64()
     }
 
     /// Acquires the slot for a stream that starts at the position, or at the confirmed one if that is greater; returns
@@ -275,22 +278,23 @@ impl Book {
     /// The first of `NoSlot`, `Ahead` (the position is above 64 * log_len() + 64) and `InUse`.
     ///
     /// PostgreSQL 15, 55.4. Streaming Replication Protocol (START_REPLICATION SLOT .. LOGICAL).
-    pub fn start(&mut self, slot: usize, position: u64) -> Result<u64, StartError>
+    pub fn start(&mut self, slot: SlotNumber, position: u64) -> Result<u64, StartError>
         ensures ok { OnOk result (ChangesSlots self.old self.new (started (book_slots self.old) slot)) }
         ensures at { IfOk result (λ start. start ≡ max position (confirmed_at (book_slots self.old) slot)) }
-        ensures within { IfOk result (λ start. start ≤ end_after (length (book_log self.old))) }
+        ensures within { IfOk result (λ start. start ≤ end_lsn_of (length (book_log self.old))) }
         ensures accepted { OnOk result
-            (start_fault (book_slots self.old) (end_after (length (book_log self.old))) slot position ≡ None) }
+            (start_fault (book_slots self.old) (end_lsn_of (length (book_log self.old))) slot position ≡ None) }
         ensures refused { IfErr result (λ error.
-            start_fault (book_slots self.old) (end_after (length (book_log self.old))) slot position ≡ Some error) }
+            start_fault (book_slots self.old) (end_lsn_of (length (book_log self.old))) slot position ≡ Some error) }
         ensures err { OnErr result (IsKept self.old self.new) }
     {
         let end = self.end();
-        slots::start(&mut self.slots, end, slot, position)
+        let start = slots::start(&mut self.slots, end, slot, Lsn::new(position))?;
+        Ok(start.to_u64())
     }
 
     /// Releases the slot, so that another stream may acquire it.
-    pub fn release(&mut self, slot: usize)
+    pub fn release(&mut self, slot: SlotNumber)
         ensures { ChangesSlots self.old self.new (released (book_slots self.old) slot) }
     {
         slots::release(&mut self.slots, slot);
@@ -304,8 +308,8 @@ impl Book {
     /// `StatusAhead` if the position is above `sent`; then nothing changes.
     ///
     /// PostgreSQL 15, 55.4. Streaming Replication Protocol (Standby status update).
-    pub fn confirm(&mut self, slot: usize, position: u64, sent: u64) -> Result<(), StatusAhead>
-        requires { sent ≤ end_after (length (book_log self.old)) }
+    pub fn confirm(&mut self, slot: SlotNumber, position: u64, sent: u64) -> Result<(), StatusAhead>
+        requires { sent ≤ end_lsn_of (length (book_log self.old)) }
         ensures ok { OnOk result (ChangesSlots self.old self.new (confirmed_up_to
             (book_slots self.old) slot position)) }
         ensures accepted { OnOk result (position ≤ sent) }
@@ -315,19 +319,19 @@ impl Book {
         if position > sent {
             return Err(StatusAhead);
         }
-        slots::confirm(&mut self.slots, slot, position);
+        slots::confirm(&mut self.slots, slot, Lsn::new(position));
         Ok(())
     }
 
     /// The rows of the table of this number.
-    fn table(&self, number: usize) -> Option<&TableRows>
+    fn table(&self, number: TableNumber) -> Option<&TableRows>
         ensures { option_copied result ≡ slice_get self.now.tables.items number }
     {
         self.tables.get(number)
     }
 
     /// The entry of this number.
-    fn place(&self, number: u32) -> Option<&Routed>
+    fn place(&self, number: CommitNumber) -> Option<&Routed>
         ensures shows { option_map (λ entry. commit_in entry.now) result ≡ entry_at (book_log self.now) number }
         ensures routed { IfSome result (λ entry. IsRouted (book_checked self.now).plan entry.now) }
     {
@@ -337,10 +341,10 @@ impl Book {
         self.log.get(number as usize - 1)
     }
 
-    /// Where the log ends: 64 * log_len() + 64.
-    fn end(&self) -> u64
-        ensures { result ≡ end_after (length (book_log self.now)) }
+    /// Where the log ends.
+    fn end(&self) -> Lsn
+        ensures { result ≡ end_lsn_of (length (book_log self.now)) }
     {
-        64 * u64::from(self.log_len()) + 64
+        Lsn::end_of_commit(self.log_len())
     }
 }

@@ -5,6 +5,7 @@ ghost use Rattle.replica_identity.specs.ChangeView.{change_view};
 ghost use Rattle.tables_log.specs.Commits.{commit_of};
 ghost use Rattle.tables_log.specs.Sendable.{IsSendable};
 
+use crate::lsn::CommitNumber;
 use replica_identity::Change;
 use std::alloc::{AllocError, Global};
 use std::marker::Model;
@@ -16,7 +17,7 @@ use std::marker::Model;
 /// PostgreSQL 15, 55.9. Logical Replication Message Formats.
 #[derive(Debug, Drop)]
 pub struct Commit {
-    number: u32,
+    number: CommitNumber,
     time: u64,
     changes: Vec<Change>,
 }
@@ -63,7 +64,7 @@ fn same_changes(one: &[Change], other: &[Change]) -> bool
 
 impl Commit {
     /// The commit of this number, time and changes.
-    pub(crate) fn new(number: u32, time: u64, changes: Vec<Change>) -> Commit
+    pub(crate) fn new(number: CommitNumber, time: u64, changes: Vec<Change>) -> Commit
         requires { IsSendable (commit_of number time (map change_view changes.items)) }
         ensures { result ≡ commit_of number time (map change_view changes.items) }
     {
@@ -75,7 +76,7 @@ impl Commit {
     }
 
     /// The commit's number: 1 for the first one of the log, and at most 1,000,000,000.
-    pub fn number(&self) -> u32
+    pub fn number(&self) -> CommitNumber
         ensures shows { result ≡ self.now.number }
         ensures sendable { IsSendable self.now }
     {

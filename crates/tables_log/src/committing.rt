@@ -13,6 +13,7 @@ ghost use Rattle.tables_log.specs.Settling.{IsSettled};
 
 use crate::commit::Commit;
 use crate::error::CommitError;
+use crate::lsn::CommitNumber;
 use crate::settling::settle;
 use crate::staging::{apply_all, discard};
 use crate::table_rows::TableRows;
@@ -59,7 +60,7 @@ fn stage(
     checked: &Checked,
     tables: &mut [TableRows],
     commands: &[Command],
-    number: u32,
+    number: CommitNumber,
     time: u64,
 ) -> Result<Arc<Commit, Global>, CommitError>
     requires maps { HasMaps (checked_view checked.now).catalog.tables tables.old }
@@ -83,7 +84,7 @@ pub(crate) fn commit_tables(
     checked: &Checked,
     tables: &mut [TableRows],
     commands: &[Command],
-    number: u32,
+    number: CommitNumber,
     time: u64,
 ) -> Result<Arc<Commit, Global>, CommitError>
     requires maps { HasMaps (checked_view checked.now).catalog.tables tables.old }

@@ -1,6 +1,6 @@
 //! Positions in the log, and transaction numbers.
 
-ghost use Rattle.std.specs.Prelude.{◌≡◌, ◌+◌, ◌<◌, ◌^◌};
+ghost use Rattle.std.specs.Prelude.{◌≡◌, ◌+◌, ◌<◌, ◌^◌, nat_lt, max, min};
 ghost use Rattle.tables_log.specs.Lsn.{commits_before, end_lsn_of, lsn_of, xid_of};
 
 use std::marker::Model;
@@ -55,6 +55,27 @@ impl Lsn {
         ensures few { result < 2 ^ 58 }
     {
         self.bytes.saturating_sub(1) / 64
+    }
+
+    /// Whether it is after the other position.
+    pub fn is_after(self, other: Lsn) -> bool
+        ensures { result ≡ nat_lt other self }
+    {
+        self.bytes > other.bytes
+    }
+
+    /// The greater one of two positions.
+    pub fn max(self, other: Lsn) -> Lsn
+        ensures { result ≡ max self other }
+    {
+        Lsn::new(self.bytes.max(other.bytes))
+    }
+
+    /// The lesser one of two positions.
+    pub fn min(self, other: Lsn) -> Lsn
+        ensures { result ≡ min self other }
+    {
+        Lsn::new(self.bytes.min(other.bytes))
     }
 
     /// The number of bytes.

@@ -6,6 +6,7 @@ ghost use Rattle.std.specs.List.{take_while};
 ghost use Rattle.tables_log.specs.Routes.{commit_in, lacks};
 
 use crate::commit::Commit;
+use pub_catalog::SubscriberNumber;
 use row_owners::{OwnerSet, Routes};
 use std::alloc::{AllocError, Global};
 use std::sync::Arc;
@@ -75,7 +76,7 @@ pub(crate) fn entries_after(log: &[Routed], done: usize) -> &[Routed]
 pub(crate) fn passed_over(
     alloc: Global,
     entries: &[Routed],
-    subscriber: usize,
+    subscriber: SubscriberNumber,
 ) -> Result<Vec<Arc<Commit, Global>>, AllocError>
     requires { subscriber < 32 }
     ensures { IfOk result (λ commits. map (λ commit. arc_value commit) commits.items

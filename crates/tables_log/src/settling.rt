@@ -5,11 +5,12 @@ ghost use Rattle.tables_log.specs.Places.{SettlesTables};
 ghost use Rattle.tables_log.specs.Settling.{is_in, names, are_named, IsSettled, IsSettledBut, SettlesOne, SettlesNamed};
 
 use crate::table_rows::TableRows;
+use filter_tree::TableNumber;
 use table_changes::Command;
 
 /// Keeps what is seen of the table, if it exists.
 #[tactic(auto, using(crate::proofs::SettleLemmas::settles_past))]
-fn settle_one(tables: &mut [TableRows], number: usize)
+fn settle_one(tables: &mut [TableRows], number: TableNumber)
     ensures { SettlesOne tables.old tables.new number }
 {
     if number >= tables.len() {
@@ -20,7 +21,7 @@ fn settle_one(tables: &mut [TableRows], number: usize)
 
 /// Keeps what is seen of these tables.
 #[tactic(auto, using(crate::proofs::SettleLemmas::settles_number, crate::proofs::SettleLemmas::settled_numbers))]
-fn settle_each(tables: &mut [TableRows], numbers: &[usize])
+fn settle_each(tables: &mut [TableRows], numbers: &[TableNumber])
     ensures { SettlesNamed tables.old tables.new (is_in numbers.now) }
 {
     for number in numbers {

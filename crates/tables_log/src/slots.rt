@@ -4,6 +4,7 @@ ghost use Rattle.std.specs.Prelude.{◌≡◌, ◌≤◌, max, length, IfOk, IfE
 ghost use Rattle.tables_log.specs.Slots.{confirmed_at, start_fault, started, released, confirmed_up_to};
 
 use crate::error::StartError;
+use crate::lsn::Lsn;
 use pub_catalog::SubscriberNumber;
 
 /// The number of a slot, which is that of its subscription.
@@ -14,16 +15,16 @@ pub type SlotNumber = SubscriberNumber;
 /// PostgreSQL 15, 27.2.6 Replication Slots.
 #[derive(Clone, Copy, Debug)]
 pub(crate) struct Slot {
-    pub(crate) confirmed: u64,
+    pub(crate) confirmed: Lsn,
     pub(crate) taken: bool,
 }
 
 /// The slot's confirmed position; 0 if there is no such slot.
-pub(crate) fn confirmed(slots: &[Slot], number: usize) -> u64
+pub(crate) fn confirmed(slots: &[Slot], number: SlotNumber) -> Lsn
     ensures { result ≡ confirmed_at slots.now number }
 {
     match slots.get(number) {
-        None => 0,
+        None => Lsn::new(0),
         Some(slot) => slot.confirmed,
     }
 }
@@ -31,10 +32,10 @@ pub(crate) fn confirmed(slots: &[Slot], number: usize) -> u64
 /// Acquires the slot for a stream that starts at the position, or at the confirmed one if that is greater.
 pub(crate) fn start(
     slots: &mut [Slot],
-    end: u64,
-    number: usize,
-    position: u64,
-) -> Result<u64, StartError>
+    end: Lsn,
+    number: SlotNumber,
+    position: Lsn,
+) -> Result<Lsn, StartError>
     ensures ok { OnOk result (start_fault slots.old end number position ≡ None) }
     ensures at { IfOk result (λ start. start ≡ max position (confirmed_at slots.old number)) }
     ensures started { OnOk result (slots.new ≡ started slots.old number) }
@@ -44,7 +45,7 @@ pub(crate) fn start(
     let Some(slot) = slots.get(number).copied() else {
         return Err(StartError::NoSlot);
     };
-    if position > end {
+    if position.is_after(end) {
         return Err(StartError::Ahead);
     }
     if slot.taken {
@@ -58,7 +59,7 @@ pub(crate) fn start(
 }
 
 /// Releases the slot.
-pub(crate) fn release(slots: &mut [Slot], number: usize)
+pub(crate) fn release(slots: &mut [Slot], number: SlotNumber)
     ensures { slots.new ≡ released slots.old number }
 {
     if let Some(slot) = slots.get(number).copied() {
@@ -70,7 +71,7 @@ pub(crate) fn release(slots: &mut [Slot], number: usize)
 }
 
 /// Raises the slot's confirmed position to this one, if that is greater.
-pub(crate) fn confirm(slots: &mut [Slot], number: usize, position: u64)
+pub(crate) fn confirm(slots: &mut [Slot], number: SlotNumber, position: Lsn)
     ensures { slots.new ≡ confirmed_up_to slots.old number position }
 {
     if let Some(slot) = slots.get(number).copied() {

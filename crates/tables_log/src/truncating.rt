@@ -11,13 +11,13 @@ ghost use Rattle.tables_log.specs.Places.{seen_in, KeepsTables, EmptiesTable};
 
 use crate::error::{CommandFault, Refused};
 use crate::table_rows::TableRows;
-use filter_tree::add_distinct;
+use filter_tree::{TableNumber, add_distinct};
 use replica_identity::Change;
 use shard_checker::Checked;
 use std::alloc::{AllocError, Global};
 
 /// Whether there are tables, and each of them exists.
-fn are_known(checked: &Checked, numbers: &[usize]) -> bool
+fn are_known(checked: &Checked, numbers: &[TableNumber]) -> bool
     ensures { result ≡ all_known (setting_in (checked_view checked.now)) numbers.now }
 {
     let count = checked.catalog().tables.len();
@@ -30,7 +30,7 @@ fn are_known(checked: &Checked, numbers: &[usize]) -> bool
 }
 
 /// The numbers, each once, at its first place. The only error is out of memory.
-fn each_once(alloc: Global, numbers: &[usize]) -> Result<Vec<usize>, AllocError>
+fn each_once(alloc: Global, numbers: &[TableNumber]) -> Result<Vec<TableNumber>, AllocError>
     ensures { IfOk result (λ once. once.items ≡ distinct nat_eq numbers.now) }
 {
     let mut once = Vec::new(alloc);
@@ -42,7 +42,7 @@ fn each_once(alloc: Global, numbers: &[usize]) -> Result<Vec<usize>, AllocError>
 
 /// Stages that there are no rows in the table, if it exists.
 #[tactic(auto, using(crate::proofs::ListLemmas::keeps_itself, crate::proofs::TruncateLemmas::empties_past))]
-fn empty_one(tables: &mut [TableRows], number: usize)
+fn empty_one(tables: &mut [TableRows], number: TableNumber)
     ensures keeps { KeepsTables tables.old tables.new }
     ensures empties { EmptiesTable tables.old tables.new number }
 {
@@ -54,7 +54,7 @@ fn empty_one(tables: &mut [TableRows], number: usize)
 
 /// Stages that there are no rows in these tables.
 #[tactic(auto, using(crate::proofs::TruncateLemmas::empties_next, crate::proofs::ListLemmas::keeps_itself))]
-fn empty(tables: &mut [TableRows], numbers: &[usize])
+fn empty(tables: &mut [TableRows], numbers: &[TableNumber])
     ensures keeps { KeepsTables tables.old tables.new }
     ensures empties { SameTables (seen_in tables.new) (emptied (seen_in tables.old) numbers.now) }
 {
@@ -68,7 +68,7 @@ pub(crate) fn truncate(
     alloc: Global,
     checked: &Checked,
     tables: &mut [TableRows],
-    numbers: &[usize],
+    numbers: &[TableNumber],
 ) -> Result<Change, Refused>
     requires { HasMaps (checked_view checked.now).catalog.tables tables.old }
     ensures { Tries (setting_in (checked_view checked.now)) (c.Truncate numbers.now) tables.old result tables.new }

@@ -11,6 +11,7 @@ use crate::replica::Replica;
 use copy_frames::{Frame, FrameFault, Keepalive, read_keepalive, read_xlog_data};
 use pgoutput_msgs::{Msg, MsgError, decode};
 use std::alloc::Global;
+use tables_log::Lsn;
 
 /// The code of an ErrorResponse with a severity, twice, a code of five characters and a text.
 ///
@@ -106,7 +107,7 @@ impl Replica {
         ensures { Alike (machine_view self.new) (kept_alive keepalive.now (machine_view self.old)) }
     {
         if self.phase == Phase::Idle {
-            self.position = self.position.max(keepalive.position);
+            self.position = self.position.max(Lsn::new(keepalive.position));
         }
         self.wants_reply |= keepalive.wants_reply;
     }

@@ -1,5 +1,7 @@
 //! What a subscriber is ready for.
 
+use tables_log::Lsn;
+
 /// What a subscriber is ready for.
 #[derive(Clone, Copy, Debug, PartialEq, Eq)]
 pub(crate) enum Phase {
@@ -10,5 +12,5 @@ pub(crate) enum Phase {
     /// The next transaction.
     Idle,
     /// The changes of a transaction, whose Begin had this LSN.
-    Busy(u64),
+    Busy(Lsn),
 }

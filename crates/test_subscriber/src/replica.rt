@@ -9,13 +9,14 @@ use crate::table_copy::TableCopy;
 use filter_tree::Row;
 use pgoutput_msgs::{Msg, OldTuple, Relation, Tuple};
 use std::alloc::{AllocError, Global};
+use tables_log::Lsn;
 
 /// What a subscriber has: its progress, and its copies of tables.
 #[derive(Drop)]
 pub(crate) struct Replica {
     pub(crate) alloc: Global,
     pub(crate) phase: Phase,
-    pub(crate) position: u64,
+    pub(crate) position: Lsn,
     pub(crate) wants_reply: bool,
     pub(crate) copies: Vec<TableCopy>,
 }
@@ -147,7 +148,7 @@ impl Replica {
     }
 
     /// Shows what the transaction changed.
-    fn commit(&mut self, end_lsn: u64)
+    fn commit(&mut self, end_lsn: Lsn)
         ensures { Alike (machine_view self.new) (committed end_lsn (machine_view self.old)) }
     {
         settle(&mut self.copies);
@@ -161,7 +162,7 @@ impl Replica {
     {
         match message {
             Msg::Begin { final_lsn, .. } => {
-                self.phase = Phase::Busy(final_lsn);
+                self.phase = Phase::Busy(Lsn::new(final_lsn));
                 Ok(())
             }
             Msg::Relation(relation) => self.hear_relation(relation),
@@ -174,12 +175,14 @@ impl Replica {
     }
 
     /// Hears a message in a transaction whose Begin had this LSN.
-    fn hear_busy(&mut self, begin: u64, message: Msg) -> Result<(), SubFault>
+    fn hear_busy(&mut self, begin: Lsn, message: Msg) -> Result<(), SubFault>
         ensures { Hears (hear_busy begin message) self.old result self.new }
     {
         match message {
             Msg::Begin { .. } => Err(SubFault::OutOfPlace),
-            Msg::Commit { lsn, end_lsn, .. } => self.hear_commit(begin, lsn, end_lsn),
+            Msg::Commit { lsn, end_lsn, .. } => {
+                self.hear_commit(begin, Lsn::new(lsn), Lsn::new(end_lsn))
+            }
             Msg::Relation(relation) => self.hear_relation(relation),
             Msg::Insert { relation, new } => self.insert(relation, new),
             Msg::Update { relation, old, new } => self.update(relation, old, new),
@@ -189,7 +192,7 @@ impl Replica {
     }
 
     /// Hears a Commit in a transaction whose Begin had this LSN.
-    fn hear_commit(&mut self, begin: u64, lsn: u64, end_lsn: u64) -> Result<(), SubFault>
+    fn hear_commit(&mut self, begin: Lsn, lsn: Lsn, end_lsn: Lsn) -> Result<(), SubFault>
         ensures { Hears (hear_commit begin lsn end_lsn) self.old result self.new }
     {
         if lsn != begin {
@@ -203,7 +206,8 @@ impl Replica {
     pub(crate) fn hear(&mut self, message: Msg) -> Result<(), SubFault>
         ensures { Hears (hear message) self.old result self.new }
     {
-        match self.phase {
+        let phase = self.phase;
+        match phase {
             Phase::Shut => Err(SubFault::Closed),
             Phase::Waiting => Err(SubFault::OutOfPlace),
             Phase::Idle => self.hear_idle(message),

@@ -9,6 +9,7 @@ use crate::fault::SubFault;
 use bytes::BytesMut;
 use copy_frames::{FrameFault, put, put_int32};
 use std::alloc::{AllocError, Global};
+use tables_log::Lsn;
 
 /// Appends bytes between quotes, with each quote in them doubled. The only error is out of memory.
 fn put_quoted(text: &mut Vec<u8>, quote: u8, inner: &[u8]) -> Result<(), AllocError>
@@ -40,21 +41,22 @@ fn names_text(alloc: Global, names: &[String]) -> Result<Vec<u8>, AllocError>
     Ok(text)
 }
 
-/// The text of a place in the log, in bytes ("8.20. pg_lsn Type"). The only error is out of memory.
-fn lsn_text(alloc: Global, lsn: u64) -> Result<String, AllocError>
+/// The text of a place in the log ("8.20. pg_lsn Type"). The only error is out of memory.
+fn lsn_text(alloc: Global, lsn: Lsn) -> Result<String, AllocError>
     ensures { IfOk result (λ text. string_bytes text ≡ spec.lsn_text lsn) }
 {
-    let high = lsn / 0x1_0000_0000;
-    let low = lsn % 0x1_0000_0000;
+    let bytes = lsn.to_u64();
+    let high = bytes / 0x1_0000_0000;
+    let low = bytes % 0x1_0000_0000;
     format!(in alloc; "{high:X}/{low:X}")
 }
 
-/// The command that starts the stream of a slot at a place in the log, in bytes. The only error is out of memory.
+/// The command that starts the stream of a slot at a place in the log. The only error is out of memory.
 fn start_text(
     alloc: Global,
     slot: &str,
     publications: &[String],
-    lsn: u64,
+    lsn: Lsn,
 ) -> Result<Vec<u8>, AllocError>
     ensures { IfOk result (λ text. text.items
         ≡ spec.start_text slot.now (map string_bytes publications.now) lsn) }
@@ -90,7 +92,7 @@ fn append_query(out: &mut BytesMut, text: &[u8]) -> Result<(), SubFault>
     Ok(())
 }
 
-/// Appends the frame that requests the stream of a slot at a place in the log, in bytes.
+/// Appends the frame that requests the stream of a slot at a place in the log.
 ///
 /// # Errors
 ///
@@ -100,7 +102,7 @@ pub(crate) fn append_start(
     out: &mut BytesMut,
     slot: &str,
     publications: &[String],
-    lsn: u64,
+    lsn: Lsn,
 ) -> Result<(), SubFault>
     ensures { spec.Appends (spec.start_query slot.now (map string_bytes publications.now) lsn)
         out.old.items result out.new.items }

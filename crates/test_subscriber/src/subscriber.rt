@@ -11,6 +11,7 @@ use bytes::BytesMut;
 use copy_frames::{Deframer, Status, append_status};
 use filter_tree::Row;
 use std::alloc::{AllocError, Global};
+use tables_log::Lsn;
 
 /// The greatest length of a frame, which counts itself and not the kind.
 const LIMIT: u32 = 16_777_216;
@@ -63,7 +64,7 @@ impl Subscriber {
             replica: Replica {
                 alloc,
                 phase: Phase::Shut,
-                position: 0,
+                position: Lsn::new(0),
                 wants_reply: false,
                 copies: Vec::new(alloc),
             },
@@ -153,7 +154,7 @@ impl Subscriber {
         ensures machine { OnErr result (sub_machine self.new ≡ sub_machine self.old) }
         ensures names { OnErr result (spec.SameNames self.old self.new) }
     {
-        let position = self.replica.position;
+        let position = self.replica.position.to_u64();
         let status = Status {
             written: position,
             flushed: position,
@@ -217,6 +218,6 @@ impl Subscriber {
     pub fn position(&self) -> u64
         ensures { result ≡ (sub_machine self.now).position }
     {
-        self.replica.position
+        self.replica.position.to_u64()
     }
 }

@@ -23,13 +23,13 @@ struct Asking;
 
 /// Whether the client of a slot is connected, was sent something since its stream started, and has not confirmed the
 /// whole log. If so, requests a keepalive for it.
-fn ask(connections: &mut [ConnectionState], slot: SlotNumber, confirmed: u64, end: u64) -> bool
+fn ask(connections: &mut [ConnectionState], slot: SlotNumber, confirmed: Lsn, end: Lsn) -> bool
     ensures { (most : ℕ) → AreSentUpTo most connections.old → AreSentUpTo most connections.new }
 {
     let Some(connection) = connections.get(slot).copied() else {
         return false;
     };
-    if connection.has_ended || connection.sent == 0 || end <= confirmed {
+    if connection.has_ended || connection.sent.to_u64() == 0 || !end.is_after(confirmed) {
         return false;
     }
     connections[slot] = ConnectionState {
@@ -46,10 +46,10 @@ impl SlotTask for Asking {
     ghost did = { λ before after old new connections left answer. Unit {0} };
 
     fn use_slots(&mut self, book: &mut Book, connections: &mut [ConnectionState]) -> bool {
-        let end = Lsn::end_of_commit(book.log_len()).to_u64();
+        let end = Lsn::end_of_commit(book.log_len());
         let mut is_asked = false;
         for slot in 0..connections.len() {
-            if ask(connections, slot, book.confirmed(slot), end) {
+            if ask(connections, slot, Lsn::new(book.confirmed(slot)), end) {
                 is_asked = true;
             }
         }

@@ -14,17 +14,17 @@ pub(crate) struct Sent {
 }
 
 /// A position of the log, as text.
-fn position_text(alloc: Global, position: u64) -> Result<String, AllocError> {
+fn position_text(alloc: Global, position: Lsn) -> Result<String, AllocError> {
     let mut text = String::new(alloc);
     push_position(&mut text, position)?;
     Ok(text)
 }
 
 /// The position after the last commit that was taken for a connection, or that of its start.
-fn reached(served: &Served, start: u64) -> u64 {
+fn reached(served: &Served, start: Lsn) -> Lsn {
     match served.taken.last() {
         None => start,
-        Some(commit) => Lsn::end_of_commit(commit.number()).to_u64(),
+        Some(commit) => Lsn::end_of_commit(commit.number()),
     }
 }
 
@@ -36,6 +36,7 @@ pub(crate) fn sent_on<P: Publishing>(
     let (Some(slot), Some(start)) = (served.slot, served.start) else {
         return Ok(None);
     };
+    let start = Lsn::new(start);
     let alloc = publisher.allocator();
     let catalog = publisher.checked().catalog();
     let name = subscriber_name(catalog.subscriptions.as_slice(), slot);

@@ -18,14 +18,14 @@ use publisher_desk::{ConnectionState, SlotTask};
 use senders::{Publisher, Publishing, Seat};
 use std::alloc::{AllocError, Global};
 use std::sync::Wait;
-use tables_log::{Book, SlotNumber, StartError};
+use tables_log::{Book, Lsn, SlotNumber, StartError};
 
 /// The progress of a subscriber: the position up to which it has confirmed the log, that up to which it was sent the
 /// log since its stream last started, and whether it is connected.
 #[derive(Clone, Copy, Debug, PartialEq, Eq)]
 pub(crate) struct Progress {
-    pub(crate) confirmed: u64,
-    pub(crate) sent: u64,
+    pub(crate) confirmed: Lsn,
+    pub(crate) sent: Lsn,
     pub(crate) is_connected: bool,
 }
 
@@ -59,10 +59,10 @@ fn is_taken(book: &mut Book, slot: SlotNumber) -> bool
 }
 
 /// The position up to which the client of a slot was sent the log; 0 if there is no such slot.
-fn sent_to(connections: &[ConnectionState], slot: SlotNumber) -> u64 {
+fn sent_to(connections: &[ConnectionState], slot: SlotNumber) -> Lsn {
     match connections.get(slot) {
         Some(connection) => connection.sent,
-        None => 0,
+        None => Lsn::new(0),
     }
 }
 
@@ -80,7 +80,7 @@ fn progress_in(
     for slot in 0..subscriptions {
         let is_connected = is_taken(book, slot);
         progress.push(Progress {
-            confirmed: book.confirmed(slot),
+            confirmed: Lsn::new(book.confirmed(slot)),
             sent: sent_to(connections, slot),
             is_connected,
         })?;

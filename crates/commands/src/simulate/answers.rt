@@ -9,7 +9,7 @@ ghost use Rattle.commands.specs.Simulate.Answers as spec;
 use filter_tree::RowFault;
 use shard_world::Answer;
 use std::alloc::{AllocError, Global};
-use tables_log::{CommandFault, CommitError};
+use tables_log::{CommandFault, CommitError, Lsn};
 
 /// A position in the log is written as two halves, each below this number.
 const HALF: u64 = 0x1_0000_0000;
@@ -17,11 +17,12 @@ const HALF: u64 = 0x1_0000_0000;
 /// Writes a position in the log as two hexadecimal numbers, its high and its low 32 bits.
 ///
 /// PostgreSQL 15, 8.20. pg_lsn Type.
-pub fn push_position(line: &mut String, position: u64) -> Result<(), AllocError>
+pub fn push_position(line: &mut String, position: Lsn) -> Result<(), AllocError>
     ensures { OnOk result (string_bytes line.new ≡ string_bytes line.old ++ spec.position_text position) }
 {
-    let high = position / HALF;
-    let low = position % HALF;
+    let bytes = position.to_u64();
+    let high = bytes / HALF;
+    let low = bytes % HALF;
     write!(line, "{high:X}/{low:X}")
 }
 
@@ -95,7 +96,7 @@ fn push_answer(line: &mut String, answer: Answer) -> Result<(), AllocError>
         Answer::Lost => line.push_str("lost"),
         Answer::At(position) => {
             line.push_str("at ")?;
-            push_position(line, position)
+            push_position(line, Lsn::new(position))
         }
         Answer::OutOfMemory => line.push_str("out of memory"),
     }

@@ -10,11 +10,8 @@ pub returns-in-Err-OutOfMemory-clause-left : goal.returns-in-Err-OutOfMemory-cla
 returns-in-Err-OutOfMemory-clause-left c =
     nothing_heard c.args.session.now c.args.book.now c.args.frames.now c.args.piece.now c.args.sent
 
-pub returns-in_ok-fed-clause-quiet : goal.returns-in_ok-fed-clause-quiet
-returns-in_ok-fed-clause-quiet c = quiet_after _ _ _ _ c.in_ok-hear_frames.ensures.heard refl
-
-pub returns-else-is_none-clause-quiet : goal.returns-else-is_none-clause-quiet
-returns-else-is_none-clause-quiet c = quiet_after _ _ _ _ c.in_ok-hear_frames.ensures.heard refl
+pub returns-clause-quiet : goal.returns-clause-quiet
+returns-clause-quiet c = quiet_after _ _ _ _ c.in_ok-hear_frames.ensures.heard refl
 
 pub returns-in_err-hear_frames-clause-refused : goal.returns-in_err-hear_frames-clause-refused
 returns-in_err-hear_frames-clause-refused c =

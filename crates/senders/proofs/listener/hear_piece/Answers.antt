@@ -1,4 +1,4 @@
-use Rattle.std.proofs.Common.{subst}
+use Rattle.std.proofs.Common.{ℕ, subst}
 use Rattle.std.specs.Prelude.{Result}
 use Rattle.copy_both.specs.Ears.{HearLeaves, ear_phase}
 use Rattle.copy_both.specs.declared.heard.Heard.{Heard}
@@ -14,4 +14,7 @@ returns-else-has_start-clause-left c =
     (subst
     (λ (heard : Result Heard LinkFault). HearLeaves phase c.args.ear.now c.hear-heard.new.self c.args.book.now
     c.hear-heard.new.book c.args.piece.now c.args.sent heard)
-    c.in-Err-StatusAhead.is c.hear-heard.ensures.left)
+    c.in-Err-StatusAhead.is
+    (subst (λ (sent : ℕ). HearLeaves phase c.args.ear.now c.hear-heard.new.self c.args.book.now
+    c.hear-heard.new.book c.args.piece.now sent c.hear-heard.result)
+    c.to_u64.ensures c.hear-heard.ensures.left))

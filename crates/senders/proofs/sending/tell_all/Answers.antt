@@ -1,4 +1,4 @@
-use Rattle.std.proofs.Common.{List, map, ap, subst, sym, ◌∙◌}
+use Rattle.std.proofs.Common.{ℕ, List, map, ap, subst, sym, ◌∙◌}
 use Rattle.std.specs.Prelude.{false}
 use Rattle.std.proofs.lemmas.List.Elements.{All-nil}
 use Rattle.stream_laws.specs.LayoutRoom.{IsClocked}
@@ -32,7 +32,8 @@ loop-preserved-in-Sent g c =
     c.await_step.new.voice c.loop.invariant c.await_step.ensures.flushes c.reserve.ensures.items
     c.push_reserved.new.self.items c.into_commit.result (commit_in c.in-Entry.entry) c.take_routed.new.self
     c.next-in-loop.result c.in-Some-next.number c.clock.result c.clock.ensures c.next-in-loop.ensures
-    c.in-Some-next.is (subst (IsNext g.P.Publishing.checked.plan c.args.started.0 c.in-Some-next.number) c.in-Entry.is
+    c.in-Some-next.is
+    (subst (IsNext g.P.Publishing.checked.plan c.started.inside.slot c.in-Some-next.number) c.in-Entry.is
     c.in-Ok.ensures.next).0 (sym c.into_commit.ensures)
     c.in-Ok-take_routed.ensures.ok c.push_reserved.ensures.items
 
@@ -45,7 +46,8 @@ loop-preserved-in_default-told g c =
     c.await_step.new.voice c.loop.invariant c.await_step.ensures.flushes c.reserve.ensures.items
     c.push_reserved.new.self.items c.into_commit.result (commit_in c.in-Entry.entry) c.take_routed.new.self
     c.next-in-loop.result c.in-Some-next.number c.clock.result c.clock.ensures c.next-in-loop.ensures
-    c.in-Some-next.is (subst (IsNext g.P.Publishing.checked.plan c.args.started.0 c.in-Some-next.number) c.in-Entry.is
+    c.in-Some-next.is
+    (subst (IsNext g.P.Publishing.checked.plan c.started.inside.slot c.in-Some-next.number) c.in-Entry.is
     c.in-Ok.ensures.next).0 (sym c.into_commit.ensures)
     c.in-Ok-take_routed.ensures.ok c.push_reserved.ensures.items
 
@@ -60,7 +62,7 @@ take_routed-requires-clause-routed g c =
     (tells_kept (λ commit. arc_value commit) (taken c.args.writer.now) (taken c.loop.writer)
     (taken c.await_step.new.writer) told c.loop.taken.items c.reserve.new.self.items c.loop.voice
     c.await_step.new.voice c.loop.invariant c.await_step.ensures.flushes c.reserve.ensures.items)
-    (subst (IsNext g.P.Publishing.checked.plan c.args.started.0 c.in-Some-next.number) c.in-Entry.is
+    (subst (IsNext g.P.Publishing.checked.plan c.started.inside.slot c.in-Some-next.number) c.in-Entry.is
     c.in-Ok.ensures.next).2
 
 -- commits that are passed over are the next ones, and the subscriber gets nothing of any
@@ -77,7 +79,8 @@ pass_over-requires g c =
     c.await_step.new.voice c.loop.invariant c.await_step.ensures.flushes c.reserve.ensures.items)
     (ap next_of c.await_step.ensures.flushes.stage_is ∙ sym c.next-in-loop.ensures ∙ c.in-Some-next.is)
     (subst (IsNext g.P.Publishing.checked.plan c.args.started.0 c.in-Some-next.number) c.in-Skip.is
-    c.in-Ok.ensures.next)
+    (subst (λ (slot : ℕ). IsNext g.P.Publishing.checked.plan slot c.in-Some-next.number c.in-Ok.step)
+    (ap (λ (started : ℕ × ℕ). started.0) c.started.view_is) c.in-Ok.ensures.next))
 
 pub loop-preserved-in-Skip : goal.loop-preserved-in-Skip
 loop-preserved-in-Skip g c =

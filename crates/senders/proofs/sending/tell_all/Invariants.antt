@@ -8,4 +8,4 @@ abbrev pub invariant-loop : goal.invariant-loop
 invariant-loop g l =
     TellsOn (g.W.Sink.taken l.initial.writer) (g.W.Sink.taken l.writer)
     (map (λ commit. arc_value commit) l.taken.items) l.voice
-    (started_telling g.P.Publishing.checked l.started.0 l.started.1 copy_both_response)
+    (started_telling g.P.Publishing.checked l.fn.started.0 l.fn.started.1 copy_both_response)

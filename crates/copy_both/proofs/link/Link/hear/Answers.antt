@@ -40,7 +40,7 @@ invariant_of-self-in-Ok-answer_heard c =
     =
     c.in-Ok-answer_heard.ensures.ok.stage_is
     ∙ ap (λ (s : Option (ℕ × ℕ)). stage_by (link_checked link) (link_stage link) s (heard_view c.in-Ok.heard))
-    c.started.ensures in
+    c.stream.ensures in
     record {
       together =
           together_after (link_checked link) (link_ear link) c.listen.new.self c.args.book.now c.listen.new.book
@@ -97,8 +97,8 @@ returns-in-Ok-answer_heard-clause-says c =
     Sends link.voice c.answer_heard.new.voice (concat (frames_by checked (link_stage link) started heard c.args.now))
     (stage_by checked (link_stage link) started heard))
     (link_ear link) c.listen.new.self c.args.book.now c.listen.new.book c.args.piece.now (heard_view c.in-Ok.heard)
-    c.started.result c.unwrap_or-sent.result (link_sent link)
-    sent c.in-Ok.ensures.answer c.in-Ok.ensures.left c.in-Ok.ensures.exact c.started.ensures
+    c.stream.result c.unwrap_or-sent.result (link_sent link)
+    sent c.in-Ok.ensures.answer c.in-Ok.ensures.left c.in-Ok.ensures.exact c.stream.ensures
     c.in-Ok-answer_heard.ensures.ok
 
 pub returns-in-Err-answer_heard-clause-says : goal.returns-in-Err-answer_heard-clause-says
@@ -112,7 +112,7 @@ returns-in-Err-answer_heard-clause-says c =
     (λ (started : Option (ℕ × ℕ)) (heard : HeardOf). SendsFirst link.voice c.answer_heard.new.voice
     (frames_by checked (link_stage link) started heard c.args.now))
     (link_ear link) c.listen.new.self c.args.book.now c.listen.new.book c.args.piece.now (heard_view c.in-Ok.heard)
-    c.started.result c.unwrap_or-sent.result (link_sent link)
-    sent c.in-Ok.ensures.answer c.in-Ok.ensures.left c.in-Ok.ensures.exact c.started.ensures
+    c.stream.result c.unwrap_or-sent.result (link_sent link)
+    sent c.in-Ok.ensures.answer c.in-Ok.ensures.left c.in-Ok.ensures.exact c.stream.ensures
     c.in-Err-answer_heard.ensures.err in
     rw c.in-Err-answer_heard.ensures.memory first

@@ -1,6 +1,6 @@
 use Rattle.std.proofs.Common.{List, length, refl, subst, sym}
 use Rattle.tables_log.specs.BookView.{book_log}
-use Rattle.tables_log.specs.Slots.{end_after}
+use Rattle.tables_log.specs.Lsn.{end_lsn_of}
 use Rattle.publisher_desk.specs.Held.{AreSentUpTo}
 use Rattle.publisher_desk.specs.Receipts.{transactions_of}
 use Rattle.publisher_desk.specs.declared.connection_state.ConnectionState.{ConnectionState}
@@ -18,7 +18,7 @@ returns-clause-lent g c = record {
     transactions = transactions_of c.self.inside.history.all;
     stands = c.self.invariant.told.stands;
     slots = c.use_slots-answer.ensures.slots;
-    sent = subst (λ (all : List ConnectionState). AreSentUpTo (end_after (length (book_log c.self.inside.book))) all)
+    sent = subst (λ (all : List ConnectionState). AreSentUpTo (end_lsn_of (length (book_log c.self.inside.book))) all)
         (sym c.as_mut_slice.ensures.value) c.self.invariant.sent;
     does = c.use_slots-answer.ensures.did;
   };

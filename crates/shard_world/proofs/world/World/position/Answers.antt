@@ -13,5 +13,5 @@ returns-in-Some c there most events world is =
     slice_get_read peers (length peers) c.args.subscriber c.in-Some.peer.now refl found.3.0 found.1 in
     let at : slice_get (world_peers c.args.self.now) c.args.subscriber ≡ Some c.in-Some.peer.now =
     ap (λ its. slice_get its c.args.subscriber) (sym c.deref.ensures.value) ∙ read in
-    c.position.ensures ∙ position_shown c.args.self.now c.args.subscriber c.in-Some.peer.now at there most events
-    world is
+    c.new.ensures ∙ c.position.ensures ∙ position_shown c.args.self.now c.args.subscriber c.in-Some.peer.now at there
+    most events world is
