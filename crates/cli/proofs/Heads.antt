@@ -394,7 +394,7 @@ module _ (may_fail : Bool) (feed : Feed) (known old : Option (List ℕ)) where
                 result = inl (record {
                   sound = sound;
                   unrefused = unrefused_lines;
-                  told = record {
+                  written = record {
                     earlier = all.earlier;
                     line = all.line;
                     first = told_first all.earlier all.said;

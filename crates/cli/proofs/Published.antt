@@ -147,13 +147,13 @@ module _ (feed : Feed) (checked : CheckedOf) (may_fail : Bool) where
       lines = firsts ++ cut.answers;
       begun = inr (said cut.answers cut.own cut.has cut.conversation cut.seat_is);
       appends = subst (Appends old new) (sym (said_text cut.answers))
-          (Appends-trans old mid new first_text (text_of cut.answers) opens.told cut.written);
+          (Appends-trans old mid new first_text (text_of cut.answers) opens.written cut.written);
     }
     cut_off new has f.Output cut = record {
       lines = firsts ++ cut.answers;
       part = inl (inr (said cut.answers cut.own has cut.conversation cut.seat_is));
       first = subst (λ (t : List ℕ). WritesFirst t old new) (sym (said_text cut.answers))
-          (first_after first_text (text_of cut.answers) old mid new opens.told cut.first);
+          (first_after first_text (text_of cut.answers) old mid new opens.written cut.first);
     }
     cut_off new has (f.CommandLine why) cut = absurd cut
     cut_off new has (f.Input fault) cut = absurd cut
@@ -213,7 +213,8 @@ module _ (feed : Feed) (checked : CheckedOf) (may_fail : Bool) where
         → Closes checked feed.limit has now new result
         → Serves feed checked before after may_fail old new result
     closes_then now new has (Ok status) answered closing =
-        let before_last = Appends-trans old mid now first_text (text_of answered.answers) opens.told answered.written in
+        let before_last = Appends-trans old mid now first_text (text_of answered.answers) opens.written
+        answered.written in
         record {
           lines = (firsts ++ answered.answers) ++ closing.lines;
           whole = closed_lines now answered closing.lines status closing.whole;
@@ -222,7 +223,8 @@ module _ (feed : Feed) (checked : CheckedOf) (may_fail : Bool) where
               closing.appends);
         }
     closes_then now new has (Err f.OutOfMemory) answered closing =
-        let before_last = Appends-trans old mid now first_text (text_of answered.answers) opens.told answered.written in
+        let before_last = Appends-trans old mid now first_text (text_of answered.answers) opens.written
+        answered.written in
         record {
           lines = firsts ++ answered.answers;
           begun = inr (said answered.answers answered.own has answered.conversation answered.seat_is);
@@ -232,7 +234,8 @@ module _ (feed : Feed) (checked : CheckedOf) (may_fail : Bool) where
               (subst (λ (lines : List (List ℕ)). Appends now new (text_of lines)) closing.begun closing.appends));
         }
     closes_then now new has (Err f.Output) answered closing =
-        let before_last = Appends-trans old mid now first_text (text_of answered.answers) opens.told answered.written in
+        let before_last = Appends-trans old mid now first_text (text_of answered.answers) opens.written
+        answered.written in
         let first = first_after (first_text ++ text_of answered.answers) (text_of closing.lines) old now new before_last
         closing.first in
         elim closing.part [

@@ -148,7 +148,7 @@ module _ (service : Service) (input : List ℕ) (cut : CutTwice) (catalog : Cata
             certificates = certificates;
             lists = lists;
             script = script;
-            result = inl (record { sound = sound; unrefused = unrefused; told = told });
+            result = inl (record { sound = sound; unrefused = unrefused; written = told });
           })
           (λ lines begun. elim begun [
             | inl none ↦ inl none

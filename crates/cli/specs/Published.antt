@@ -132,7 +132,7 @@ pub record IsPublishServed (may_fail : Bool) (feed : Feed) (catalog : CatalogOf 
     (commands : List (List ℕ)) (lines : List (List ℕ)) (status : Status) : Type 0 where
   pub sound : IsSound catalog
   pub unrefused : IsFirstRefusal catalog trees None
-  pub told : HasTold may_fail feed catalog commands lines status
+  pub written : HasTold may_fail feed catalog commands lines status
 
 -- the input has three parts, the first is a catalog, and each line of the second is a certificate
 pub record IsPublishHead (input : List ℕ) (catalog : CatalogOf Expr) (parts : LineParts) : Type 0 where
@@ -226,7 +226,7 @@ module _ (feed : Feed) (checked : CheckedOf) (before after : Option (List ℕ)) 
 pub record Opens (feed : Feed) (port : ℕ) (callers : Option ℕ) (old new : Option (List ℕ)) : Type 0 where
   pub port_is : IsPortFor feed.port port
   pub callers_are : AreCallersAt feed.commands callers
-  pub told : Appends old new (text_of (first_lines port callers))
+  pub written : Appends old new (text_of (first_lines port callers))
 
 -- or not all of the lines are written, because memory ran out, or a port, the file or the writer failed
 pub record StopsTelling (feed : Feed) (old new : Option (List ℕ)) (failure : Failure) : Type 0 where

@@ -64,7 +64,7 @@ new_held one checked book limit most total count idle connections history new sa
       sent = subst (All (λ (c : ConnectionState). c.sent ≤ end_lsn_of (length (book_log book)))) (sym all)
           (All-replicate (λ (c : ConnectionState). c.sent ≤ end_lsn_of (length (book_log book))) count idle
           (omega (arith, unsent)));
-      told = subst (IsHistoryOf book) (sym empty) (record { stands = stands; idle = refl });
+      history_is = subst (IsHistoryOf book) (sym empty) (record { stands = stands; idle = refl });
     }
 
 pub commit_held : (checked : CheckedOf) (limit : ℕ) (old new : Book) (commands : List Command)
@@ -72,7 +72,7 @@ pub commit_held : (checked : CheckedOf) (limit : ℕ) (old new : Book) (commands
     → Commits old new commands time number
     → more ≡ total + 1 → IsHistoryOf new longer
     → IsHeldFor checked limit old total connections history → IsHeldFor checked limit new more connections longer
-commit_held checked limit old new commands time number total more connections history longer commits one told held =
+commit_held checked limit old new commands time number total more connections history longer commits one of_new held =
     let count : length (book_log new) ≡ length (book_log old) + 1 = ap length commits.log
     ∙ length-append (book_log old) _ in
     record {
@@ -85,7 +85,7 @@ commit_held checked limit old new commands time number total more connections hi
       counted = omega (arith, count, held.counted, one);
       slots = held.slots;
       sent = sent_longer connections (length (book_log old)) (length (book_log new)) (omega (arith, count)) held.sent;
-      told = told;
+      history_is = of_new;
     }
 
 slots_held : (checked : CheckedOf) (limit : ℕ) (old new : Book) (slots : List Slot) (total : ℕ)
@@ -101,11 +101,11 @@ slots_held checked limit old new slots total connections history changes held = 
   };
   counted = ap length changes.log ∙ held.counted;
   slots = held.slots;
-  sent = subst (λ log. All (λ (c : ConnectionState). c.sent ≤ end_lsn_of (length log)) connections) (sym changes.log)
-      held.sent;
-  told = record {
-    stands = slots_keep_it old new slots changes (transactions_of history.all) held.told.stands;
-    idle = held.told.idle;
+  sent = subst (λ log. All (λ (c : ConnectionState). c.sent ≤ end_lsn_of (length log)) connections)
+      (sym changes.log) held.sent;
+  history_is = record {
+    stands = slots_keep_it old new slots changes (transactions_of history.all) held.history_is.stands;
+    idle = held.history_is.idle;
   };
 }
 

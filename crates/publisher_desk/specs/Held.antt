@@ -39,11 +39,11 @@ pub record IsBookOf (checked : CheckedOf) (limit : ℕ) (book : Book) : Type 0 w
   pub stands : StandsFor book transactions
 
 -- So is the book; the total is the number of its commits, no slot's client was sent the log past its end, and the
--- history tells its transactions.
+-- history has its transactions.
 pub record IsHeldFor (checked : CheckedOf) (limit : ℕ) (book : Book) (total : ℕ) (connections : List ConnectionState)
     (history : HistoryView) : Type 0 where
   pub is : IsBookOf checked limit book
   pub counted : length (book_log book) ≡ total
   pub slots : length connections ≡ length checked.catalog.subscriptions
   pub sent : AreSentUpTo (end_lsn_of (length (book_log book))) connections
-  pub told : IsHistoryOf book history
+  pub history_is : IsHistoryOf book history

@@ -142,7 +142,7 @@ module _ (book fresh : Book) (seats : List SeatOf) (order : List ReceiptOf) (ord
   wrong_cause : ¬ All (IsRight (book_setting book) (transactions_of order)) (all_readings seats)
       → HasWrongReading book seats
   unfolding told_by
-  wrong_cause wrong = record { order = order; told = told_by; wrong = wrong }
+  wrong_cause wrong = record { order = order; explained = told_by; wrong = wrong }
 
   taken_cause : (served : List Served)
       → All (IsRight (book_setting book) (transactions_of order)) (all_readings seats)
@@ -150,7 +150,7 @@ module _ (book fresh : Book) (seats : List SeatOf) (order : List ReceiptOf) (ord
   unfolding told_by
   taken_cause served right other = record {
     order = order;
-    told = told_by;
+    explained = told_by;
     right = right;
     other = let all = replays_all book fresh order replayed long count in
         subst (λ (log : List CommitOf). ¬ All (IsTaken log) served) all.1 other;
@@ -163,7 +163,7 @@ module _ (book fresh : Book) (seats : List SeatOf) (order : List ReceiptOf) (ord
   unfolding told_by
   late_cause served right taken late = record {
     order = order;
-    told = told_by;
+    explained = told_by;
     right = right;
     taken = let all = replays_all book fresh order replayed long count in
         subst (λ (log : List CommitOf). All (IsTaken log) served) all.1 taken;
@@ -183,7 +183,7 @@ module _ (book fresh : Book) (seats : List SeatOf) (order : List ReceiptOf) (ord
     order = order;
     ordered = ordered;
     transactions = transactions_of order;
-    told = refl;
+    are = refl;
     stands = (replays_all book fresh order replayed long count).0;
     counted = count;
     right = right;
@@ -282,7 +282,7 @@ still_closed checked limit seats served old new changes closed = record {
   ordered = closed.ordered;
   begins = closed.begins;
   transactions = closed.transactions;
-  told = closed.told;
+  are = closed.are;
   stands = slots_keep_it old new (book_slots new) changes closed.transactions closed.stands;
   counted = ap length changes.log ∙ closed.counted;
   right = closed.right;

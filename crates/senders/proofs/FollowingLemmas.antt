@@ -221,12 +221,12 @@ closed_are_told checked limit seats served book closed =
     let order : List ReceiptOf = closed.order in
     let each : All IsTimedReceipt order =
     All-permutation IsTimedReceipt (all_receipts seats) order closed.ordered.all (all_timed seats closed.timed) in
-    let long : length closed.transactions ≡ length order = ap length closed.told ∙ length-map order transaction_of in
+    let long : length closed.transactions ≡ length order = ap length closed.are ∙ length-map order transaction_of in
     let logged : length (book_log book) ≡ length book.log.items = length-map book.log.items commit_in in
     record {
       accepted = subst (λ (c : CheckedOf). AreAccepted (setting_in c) no_rows closed.transactions) closed.named
           closed.stands.accepted;
-      timed = subst (λ (l : List Transaction). All IsTimedTransaction l) (sym closed.told)
+      timed = subst (λ (l : List Transaction). All IsTimedTransaction l) (sym closed.are)
           (transactions_timed order each);
       few = omega (arith, long, logged, closed.counted, book.room, book.within);
     }

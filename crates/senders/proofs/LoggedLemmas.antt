@@ -334,8 +334,8 @@ module _ (checked : CheckedOf) (book : Book) (seats : List SeatOf) (named : book
   unfolding long order_logged right
   not_wrong wrong =
       let size : length (book_log book) ≡ length wrong.order =
-      each_entry (book_setting book) no_rows 1 wrong.order (book_log book) wrong.told.logged in
-      wrong.wrong (right wrong.order (order_logged wrong.order wrong.told.ordered (omega (arith, size, long))))
+      each_entry (book_setting book) no_rows 1 wrong.order (book_log book) wrong.explained.logged in
+      wrong.wrong (right wrong.order (order_logged wrong.order wrong.explained.ordered (omega (arith, size, long))))
     where
       each_entry : (setting : Setting) (tables : Tables) (number : ℕ) (order : List ReceiptOf) (log : List CommitOf)
           → log ≡ entries_from setting tables number (transactions_of order) → length log ≡ length order

@@ -71,18 +71,18 @@ pub record IsToldBy (book : Book) (seats : List SeatOf) (order : List ReceiptOf)
 
 pub record HasWrongReading (book : Book) (seats : List SeatOf) : Type 0 where
   pub order : List ReceiptOf
-  pub told : IsToldBy book seats order
+  pub explained : IsToldBy book seats order
   pub wrong : ¬ All (IsRight (book_setting book) (transactions_of order)) (all_readings seats)
 
 pub record HasOtherTaken (book : Book) (seats : List SeatOf) (served : List Served) : Type 0 where
   pub order : List ReceiptOf
-  pub told : IsToldBy book seats order
+  pub explained : IsToldBy book seats order
   pub right : All (IsRight (book_setting book) (transactions_of order)) (all_readings seats)
   pub other : ¬ All (IsTaken (book_log book)) served
 
 pub record HasLateStart (book : Book) (seats : List SeatOf) (served : List Served) : Type 0 where
   pub order : List ReceiptOf
-  pub told : IsToldBy book seats order
+  pub explained : IsToldBy book seats order
   pub right : All (IsRight (book_setting book) (transactions_of order)) (all_readings seats)
   pub taken : All (IsTaken (book_log book)) served
   pub late : ¬ AreReached (length (book_checked book).catalog.subscriptions) served

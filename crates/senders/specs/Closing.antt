@@ -27,7 +27,7 @@ pub record IsClosed (checked : CheckedOf) (limit : ℕ) (seats : List SeatOf) (s
   pub ordered : AreInOrder seats order
   pub begins : All (λ (seat : SeatOf). StartsWith order seat.seen) seats
   pub transactions : List Transaction
-  pub told : transactions ≡ transactions_of order
+  pub are : transactions ≡ transactions_of order
   pub stands : StandsFor book transactions
   pub counted : length (book_log book) ≡ length order
   pub right : All (IsRight (setting_in checked) transactions) (all_readings seats)

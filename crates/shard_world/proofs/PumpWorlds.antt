@@ -202,7 +202,7 @@ module _ (before between later after : World) (now subscriber : ℕ) (timed : no
       record {
         heard = hears.answers;
         taken = takes.walks.answers;
-        told = tells.answers;
+        rest = tells.answers;
         are = pump_answers now subscriber before between later after hears takes tells;
         one = as_many_answers (world_checked before) most hearing hears.answers world heard.next heard.runs;
         as_many = as_many_answers (world_checked between) most taking takes.walks.answers heard.next taken.next

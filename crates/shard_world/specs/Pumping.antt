@@ -92,8 +92,8 @@ IsPosition code subscriber position =
 pub record TakesEnough (takes commits : ℕ) (answers : List Answer) : Type 0 where
   pub heard : List Answer
   pub taken : List Answer
-  pub told : List Answer
-  pub are : answers ≡ heard ++ (taken ++ told)
+  pub rest : List Answer
+  pub are : answers ≡ heard ++ (taken ++ rest)
   pub one : length heard ≡ 1
   pub as_many : length taken ≡ takes
   pub enough : EndsIdle taken ⊎ (commits < takes)

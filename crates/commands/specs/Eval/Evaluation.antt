@@ -43,8 +43,8 @@ row_said q.Insert number row carriers = insert_line number row carriers
 
 -- the line of a row that is read
 abbrev pub line_by : Option RowFault → List ℕ → List ℕ
-line_by None told = told
-line_by (Some fault) told = bad_line (Invalid fault)
+line_by None line = line
+line_by (Some fault) line = bad_line (Invalid fault)
 
 module _ (wanted : RowOutput) (number : ℕ) (carriers : List CarrierOf) (columns : List Column) where
   -- the line of a row that fits is what is said of it; of another, why it does not fit, or is not read

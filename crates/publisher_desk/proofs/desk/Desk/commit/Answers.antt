@@ -18,7 +18,7 @@ record-requires-clause-number g c =
       arith,
       ap (λ (receipt : ReceiptOf). receipt.number) c.new-receipt.ensures,
       c.in-Ok.ensures.ok.number_is,
-      history_long c.self.inside.book c.self.inside.history c.self.invariant.told,
+      history_long c.self.inside.book c.self.inside.history c.self.invariant.history_is,
     )
 
 pub invariant_of-self : goal.invariant_of-self
@@ -27,7 +27,7 @@ invariant_of-self g c =
     (map command_view c.as_slice.result.now) c.args.time c.in-Ok.number c.self.inside.counted.total
     c.make_commit.new.counted.total c.self.inside.connections.items c.self.inside.history c.record.new.self
     c.in-Ok.ensures.ok c.in-Ok.ensures.total
-    (history_adds c.self.inside.book c.self.inside.history c.self.invariant.told c.make_commit.new.book
+    (history_adds c.self.inside.book c.self.inside.history c.self.invariant.history_is c.make_commit.new.book
     (map command_view c.as_slice.result.now) c.args.time c.in-Ok.number c.new-receipt.result c.record.new.self
     c.in-Ok.ensures.ok
     (ap (λ (receipt : ReceiptOf). receipt.commands) c.new-receipt.ensures
@@ -49,7 +49,7 @@ returns-in-Ok-clause-made g c =
     c.make_commit.new.book (map command_view c.as_slice.result.now) (map command_view c.args.commands.items)
     c.args.time c.in-Ok.number c.new-receipt.result c.self.inside.history c.record.new.self
     (sight_of c.args.token.now) (sight_of c.record.new.token) c.in-Ok.ensures.ok c.new-receipt.ensures
-    (history_adds c.self.inside.book c.self.inside.history c.self.invariant.told c.make_commit.new.book
+    (history_adds c.self.inside.book c.self.inside.history c.self.invariant.history_is c.make_commit.new.book
     (map command_view c.as_slice.result.now) c.args.time c.in-Ok.number c.new-receipt.result c.record.new.self
     c.in-Ok.ensures.ok
     (ap (λ (receipt : ReceiptOf). receipt.commands) c.new-receipt.ensures
@@ -70,5 +70,5 @@ returns-in-Err-clause-refused g c =
     (sight_of c.args.token.now) (sight_of c.look.new.token) c.in-Err.error) c.as_slice.ensures.value
     (refuses g.P.Publishing.checked g.P.Publishing.limit c.self.inside.book c.self.invariant.is
     c.self.inside.history (sight_of c.args.token.now) (sight_of c.look.new.token)
-    (map command_view c.as_slice.result.now) c.in-Err.error c.self.invariant.told c.look.ensures.seen
+    (map command_view c.as_slice.result.now) c.in-Err.error c.self.invariant.history_is c.look.ensures.seen
     c.in-Err.ensures.refused)

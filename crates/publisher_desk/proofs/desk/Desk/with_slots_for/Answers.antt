@@ -16,7 +16,7 @@ returns-clause-lent g c = record {
     left = c.use_slots-answer.new.connections;
     named = c.self.invariant.is.named;
     transactions = transactions_of c.self.inside.history.all;
-    stands = c.self.invariant.told.stands;
+    stands = c.self.invariant.history_is.stands;
     slots = c.use_slots-answer.ensures.slots;
     sent = subst (λ (all : List ConnectionState). AreSentUpTo (end_lsn_of (length (book_log c.self.inside.book))) all)
         (sym c.as_mut_slice.ensures.value) c.self.invariant.sent;
