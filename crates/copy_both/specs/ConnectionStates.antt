@@ -6,7 +6,7 @@ use Rattle.copy_both.specs.Voices.{StageOf}
 use Rattle.copy_both.specs.declared.phase.Phase.{Phase}
 use Rattle.copy_both.specs.declared.phase.Phase.TheVariants as phase
 
--- before the start, while the slot of this number streams, and after the end
+-- before the start, while the slot with this number streams, and after the end
 pub data StateOf : Type 0 where
   Waits : StateOf
   Streams : ℕ → StateOf

@@ -123,7 +123,7 @@ abbrev pub next_heard : ServedFrom → Frame → Option (ℕ × ℕ) → Hearing
 next_heard served frame None h = first_heard served frame h
 next_heard served frame (Some started) h = event_heard served started.0 (event_of frame.kind frame.body) h
 
--- ---- all frames: what comes after a fault or an end isn't read
+-- ---- all frames: what comes after a fault or an end is not read
 
 abbrev pub is_over_by : Option LinkFault → Option ℕ → Bool
 is_over_by (Some fault) kind = true

@@ -65,7 +65,7 @@ sent_by_moves checked transactions subscriber at (move ∷ moves) =
     sent_by_move checked transactions subscriber at move
     ++ sent_by_moves checked transactions subscriber (reached_by checked transactions subscriber at move) moves
 
--- the bytes of a connection of the subscriber of this number that starts at this position and makes these moves
+-- the bytes of a connection of the subscriber with this number that starts at this position and makes these moves
 abbrev pub stream_seen : CheckedOf → List Transaction → ℕ → ℕ → List Move → List ℕ
 stream_seen checked transactions subscriber position moves =
     flat_map spelled (Response ∷ sent_by_moves checked transactions subscriber (reached_at position) moves)

@@ -117,11 +117,11 @@ abbrev pub is_this : List ℕ → Option (List ℕ) → Bool
 is_this name None = false
 is_this name (Some other) = bytes_eq name other
 
--- the publication of this number has this name
+-- the publication with this number has this name
 abbrev pub is_called : List (List ℕ) → List ℕ → ℕ → Bool
 is_called known name number = is_this name (slice_get known number)
 
--- the publications of these numbers are those of these names, as sets
+-- the publications with these numbers are those of these names, as sets
 abbrev pub same_publications : List (List ℕ) → List (List ℕ) → List ℕ → Bool
 same_publications known names numbers =
     list_all (λ name. list_any (is_called known name) numbers) names
@@ -132,7 +132,7 @@ same_publications known names numbers =
 abbrev pub is_in_use : List Bool → ℕ → Bool
 is_in_use in_use slot = unwrap_or (slice_get in_use slot) false
 
--- the refusals of a command, if the slot is that of the subscription of this number
+-- the refusals of a command, if the slot is that of the subscription with this number
 abbrev pub slot_refusal : OfferOf → StartCommand → ℕ → List ℕ → Option RefusalOf
 slot_refusal offer command slot taken =
     or_else (options_refusal [] command.options)
@@ -168,7 +168,7 @@ abbrev pub name_or_empty : Option Subscription → List ℕ
 name_or_empty None = []
 name_or_empty (Some subscription) = subscription.name
 
--- the name of the slot of this number
+-- the name of the slot with this number
 abbrev pub slot_name : List Subscription → ℕ → List ℕ
 slot_name subscriptions slot = name_or_empty (slice_get subscriptions slot)
 

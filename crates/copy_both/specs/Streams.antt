@@ -57,7 +57,7 @@ state_at slot tables position =
 
 -- ---- a commit is taken
 
--- what comes before each message of the commit of this number
+-- what comes before each message of the commit with this number
 abbrev pub head_of : ℕ → ℕ → XLogData
 head_of number clock = record { start = lsn_of number; end = lsn_of number; clock = clock }
 

@@ -136,7 +136,7 @@ IsQuietFor checked NotStarted commit = Unit {0}
 IsQuietFor checked (Started state) commit = concerns checked.plan commit.changes state.slot ≡ false
 IsQuietFor checked Closed commit = Unit {0}
 
--- where a connection is then that sent nothing of the commit of this number
+-- where a connection is then that sent nothing of the commit with this number
 abbrev pub state_past : streams.StreamStateOf → ℕ → streams.StreamStateOf
 state_past state number =
     record { slot = state.slot; done = state.done + 1; relation_sent = state.relation_sent; sent = end_lsn_of number }

@@ -22,7 +22,7 @@ pub struct StartOption {
 /// What the value of an option means ("55.5.1. Logical Streaming Replication Parameters").
 #[derive(Debug, Drop)]
 pub enum OptionValue {
-    /// There is no option of this name, or its value is missing, or it can't have this value.
+    /// There is no option of this name, or its value is missing, or it cannot have this value.
     Wrong,
     /// A version of the protocol other than 1, or a feature that is not supported is on.
     Unsupported,

@@ -293,7 +293,7 @@ pub fn start_refusal<'a>(offer: &Offer<'_>, command: &'a StartCommand) -> Option
     refusal_at(offer, command, found)
 }
 
-/// The name of the slot of this number; empty if there is none.
+/// The name of the slot with this number; empty if there is none.
 fn slot_name(subscriptions: &[Subscription], slot: SlotNumber) -> &str
     ensures { result.now ≡ spec.slot_name subscriptions.now slot }
 {

@@ -9,8 +9,8 @@ pub enum Taken {
     NotStarted,
     /// The log has no further commit.
     Idle,
-    /// The commit of this number has no change for the subscriber.
+    /// The commit with this number has no change for the subscriber.
     Skipped(CommitNumber),
-    /// The messages of the commit of this number are in the output.
+    /// The messages of the commit with this number are in the output.
     Sent(CommitNumber),
 }

@@ -133,7 +133,7 @@ impl Voice {
     }
 
     /// Takes the next commit of a log, as `take_entry` does. A change from which the subscriber gets nothing, by the
-    /// sets that the log keeps with the commit, isn't looked at.
+    /// sets that the log keeps with the commit, is not looked at.
     ///
     /// The time it takes is that of the changes that are for the subscriber and their messages, and one test for each
     /// change.
@@ -193,8 +193,8 @@ impl Voice {
     }
 
     /// Takes the next commit, of which the subscriber gets nothing: it is skipped, as `take_entry` skips it at any
-    /// clock. Nothing is sent, no memory is allocated, and the commit's changes aren't looked at. The commit is that of
-    /// the number `next()`, if there is one. If the stream doesn't run, nothing changes.
+    /// clock. Nothing is sent, no memory is allocated, and the commit's changes are not looked at. The commit is that
+    /// of the number `next()`, if there is one. If the stream does not run, nothing changes.
     pub fn skip(&mut self, commit: &Commit)
         requires next { IfSome (spec.next_of (voice_stage self.old)) (λ next. commit.now.number ≡ next) }
         requires quiet { IsQuietFor (voice_checked self.old) (voice_stage self.old) commit.now }

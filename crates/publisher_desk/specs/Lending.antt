@@ -64,8 +64,8 @@ commits_in Finished = 0
 commits_in OutOfMemory = 0
 
 -- What a step says of the log, for the sender of this slot that has sent all commits before this number. It sends
--- the log's entry of this number only if the slot's subscriber gets something of it. Otherwise it passes over that entry
--- and those after it, up to the first of which the subscriber gets something, and at most 64.
+-- the log's entry with this number only if the slot's subscriber gets something of it. Otherwise it passes over that
+-- entry and those after it, up to the first of which the subscriber gets something, and at most 64.
 abbrev pub IsStepOf : PlanOf → ℕ → List CommitOf → ℕ → SenderStep → Type 0
 IsStepOf plan slot log number (Entry entry) =
     (entry_at log number ≡ Some (commit_in entry)) × (concerns plan (commit_in entry).changes slot ≡ true)

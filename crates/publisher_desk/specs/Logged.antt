@@ -21,7 +21,7 @@ use Rattle.publisher_desk.specs.declared.sight.HistoryView.{HistoryView}
 
 -- ---- notes
 
--- The receipt stands in the log, at its number.
+-- The receipt is in the log, at its number.
 pub record StandsIn (log : List ReceiptOf) (receipt : ReceiptOf) : Type 0 where
   pub earlier : List ReceiptOf
   pub later : List ReceiptOf
@@ -88,7 +88,7 @@ pub record IsHistoryOf (book : Book) (history : HistoryView) : Type 0 where
   pub idle : history ≡ view_of true history.all []
 
 -- The book is of the transactions of a log of which each of these seats has seen a beginning, and in which all of their
--- receipts stand at their numbers, which rise in each seat and of which no two are equal. Each reading is right by the
+-- receipts are at their numbers, which rise in each seat and of which no two are equal. Each reading is right by the
 -- log's beginning.
 pub record IsLogOfSeats (checked : CheckedOf) (seats : List SeatOf) (book : Book) : Type 0 where
   pub log : List ReceiptOf
@@ -103,8 +103,8 @@ pub record Records (receipt : ReceiptOf) (old new : Sight) : Type 0 where
   pub log : List ReceiptOf
   pub adds : AddsTo log receipt old new
 
--- The seat has seen the whole log, of so many commits, each of which was accepted after those before it. The answer is the
--- row of the key after them.
+-- The seat has seen the whole log, of so many commits, each of which was accepted after those before it. The answer is
+-- the row of the key after them.
 pub record Looks (setting : Setting) (table : ℕ) (key : List Datum) (number : ℕ) (answer : Option (List Datum))
     (old new : Sight) : Type 0 where
   pub log : List ReceiptOf

@@ -12,7 +12,7 @@ use Rattle.tables_log.specs.declared.error.CommitError.TheVariants as e
 use Rattle.publisher_desk.specs.declared.read_fault.ReadFault.{ReadFault}
 use Rattle.publisher_desk.specs.declared.read_fault.ReadFault.TheVariants as r
 
--- The list has the fault that the error tells. A full log, a row that isn't there and a key that another row has are
+-- The list has the fault that the error tells. A full log, a row that is not there and a key that another row has are
 -- not faults of the list alone, and memory may be refused for any.
 abbrev pub HasFault : Setting → List Command → CommitError → Type 0
 HasFault setting commands e.EmptyTransaction = commands ≡ []
@@ -24,7 +24,7 @@ HasFault setting commands (e.At number f.DuplicateKey) = Unit {0}
 HasFault setting commands e.LogFull = Unit {0}
 HasFault setting commands e.OutOfMemory = Unit {0}
 
--- why a row isn't read: there is no such table
+-- why a row is not read: there is no such table
 abbrev pub HasReadFault : CheckedOf → ℕ → ReadFault → Type 0
 HasReadFault checked table r.NoTable = length checked.catalog.tables ≤ table
 HasReadFault checked table r.OutOfMemory = table < length checked.catalog.tables

@@ -257,11 +257,11 @@ impl<P: Publishing> Desk<P> {
     }
 
     /// The next step of the slot's sender, which has sent all commits before this number; none if it has to wait, and
-    /// then the log has no commit of this number. A reply that was requested comes before an end. For a number that no
-    /// log has, the sender ends.
+    /// then the log has no commit with this number. A reply that was requested comes before an end. For a number that
+    /// no log has, the sender ends.
     ///
-    /// It sends the commit of this number if the slot's subscriber gets something of it. Otherwise it passes over that
-    /// commit and those after it, up to the first of which the subscriber gets something, and at most 64.
+    /// It sends the commit with this number if the slot's subscriber gets something of it. Otherwise it passes over
+    /// that commit and those after it, up to the first of which the subscriber gets something, and at most 64.
     pub(crate) fn step(&mut self, slot: SlotNumber, number: u64) -> Option<SenderStep>
         ensures log { self.new ≡ self.old }
         ensures entry { IfSome result (IsStepOf P.checked.plan slot self.old number) }
@@ -302,14 +302,14 @@ impl<P: Publishing> Desk<P> {
         Some(step)
     }
 
-    /// The subscribers that get something of the commit of this number.
+    /// The subscribers that get something of the commit with this number.
     pub(crate) fn concerned(&self, number: CommitNumber) -> OwnerSet
         ensures { OwnedWhere result (gets_some P.checked.plan (entry_at self.now number)) }
     {
         self.book.concerned(number)
     }
 
-    /// The slots whose sender has something to do since the commit of this number: those whose subscriber gets
+    /// The slots whose sender has something to do since the commit with this number: those whose subscriber gets
     /// something of it, and at each multiple of `TOGETHER`, those that are that many commits behind.
     pub(crate) fn waiting(&self, number: CommitNumber) -> OwnerSet {
         let mut slots = self.concerned(number);
@@ -317,7 +317,7 @@ impl<P: Publishing> Desk<P> {
         slots
     }
 
-    /// At each multiple of `batch`, the slots whose sender is that many commits behind the commit of this number; at
+    /// At each multiple of `batch`, the slots whose sender is that many commits behind the commit with this number; at
     /// other numbers none.
     pub(crate) fn behind(&self, number: CommitNumber, batch: u32) -> OwnerSet {
         let mut slots = OwnerSet::none();

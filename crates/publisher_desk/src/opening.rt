@@ -12,7 +12,7 @@ use std::sync::ledger::Blank;
 /// How many seats a publisher has.
 pub(crate) const SEATS: u64 = 1_000;
 
-/// The ledger and the history of a publisher that isn't named yet: the ledger counts its commits, and the history ties
+/// The ledger and the history of a publisher that is not named yet: the ledger counts its commits, and the history ties
 /// receipts and readings to its log. Contracts see their names, and the number of the ledger's parts, 1,000.
 #[derive(Drop)]
 pub struct Opening {

@@ -121,7 +121,7 @@ impl<P: Publishing> Publisher<P> {
     ///
     /// # Errors
     ///
-    /// Those of `Book::commit`, in its order, or `OutOfMemory` in place of any of them.
+    /// Those of `Book::commit`, in its order, or `OutOfMemory` instead of any of them.
     ///
     /// PostgreSQL 15, 3.4. Transactions, and Chapter 6 Data Manipulation.
     pub fn commit<R: Wait>(
@@ -234,8 +234,8 @@ impl<P: Publishing> Publisher<P> {
     /// something to do. A reply that was requested comes before an end. For a slot that does not exist, and for a
     /// number that no log has, the sender ends.
     ///
-    /// It sends the commit of this number if the slot's subscriber gets something of it. Otherwise it passes over that
-    /// commit and those after it, up to the first of which the subscriber gets something, and at most 64.
+    /// It sends the commit with this number if the slot's subscriber gets something of it. Otherwise it passes over
+    /// that commit and those after it, up to the first of which the subscriber gets something, and at most 64.
     pub fn next_step<R: Wait>(&self, rt: &R, slot: SlotNumber, number: u64) -> SenderStep
         ensures { IsNext P.checked.plan slot number result }
     {

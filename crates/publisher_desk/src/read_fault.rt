@@ -3,10 +3,10 @@
 use std::alloc::{AllocError, AllocFailed};
 use thiserror::Error;
 
-/// Why a row isn't read.
+/// Why a row is not read.
 #[derive(Clone, Copy, Debug, PartialEq, Eq, Error)]
 pub enum ReadFault {
-    /// There is no table of this number.
+    /// There is no table with this number.
     #[error("there is no such table")]
     NoTable,
     /// An allocation was refused.

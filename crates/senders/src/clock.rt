@@ -7,7 +7,7 @@ use std::time::Clock;
 /// How many seconds after 1970-01-01 2000-01-01 is.
 const SECONDS_TO_2000: u64 = 946_684_800;
 
-/// The time in microseconds since 2000-01-01, as messages have it; 0 where the clock can't be read.
+/// The time in microseconds since 2000-01-01, as messages have it; 0 where the clock cannot be read.
 ///
 /// PostgreSQL 15, 55.4. Streaming Replication Protocol.
 pub(crate) fn clock<R: Clock>(rt: &R) -> u64

@@ -15,7 +15,7 @@ pub enum CloseError {
     #[error("a commit of the log has no receipt")]
     ReceiptMissing,
     /// A reading is not the row of its key after its number of commits.
-    #[error("a row was read that no commit left")]
+    #[error("a reading differs from what the commits left")]
     ReadingWrong,
     /// A commit that was taken for a connection is not that of the log, or a connection that was finished stops
     /// before the log's end.

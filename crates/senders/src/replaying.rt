@@ -39,7 +39,7 @@ fn is_same(commit: &Commit, other: Option<&Commit>) -> bool
     }
 }
 
-/// Whether the books have the same entry of this number.
+/// Whether the books have the same entry with this number.
 fn have_same_entry(one: &Book, other: &Book, number: CommitNumber) -> bool
     ensures { MatchBool result
         (entry_at (book_log one.now) number ≡ entry_at (book_log other.now) number)

@@ -159,7 +159,7 @@ settled_commands tables first commands index past settling but =
       width = all.width;
     }
 
--- ---- tables that commands don't name
+-- ---- tables that commands do not name
 
 without_others : (setting : Setting) (tables : Tables) (number : ℕ) (found : Option (List Datum)) (table : ℕ)
     → table ≢ number → (key : ℕ) (value : List Datum)

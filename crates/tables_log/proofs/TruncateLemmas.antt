@@ -161,7 +161,7 @@ pub record Emptying (tables first : List TableRows) (left all : List ℕ) : Type
   pub empties : SameTables (emptied (seen_in tables) left) (emptied (seen_in first) all)
   pub keeps : KeepsTables first tables
 
--- nothing is seen of a table that doesn't exist
+-- nothing is seen of a table that does not exist
 nothing_past : (tables : List TableRows) (number : ℕ) → length tables ≤ number → (key : ℕ) (value : List Datum)
     → seen_in tables number key value ≡ None
 nothing_past tables number past key value =

@@ -41,7 +41,7 @@ pub record ReplacesRow (old new : TableRows) (keys : List UniqueKey) (gone row :
   pub sees : (number : ℕ) (value : List Datum) → seen_at new.maps.items number value
       ≡ put_at (put_at (seen_at old.maps.items) (values_in keys gone) None) (values_in keys row) (Some row) number value
 
--- ---- what a command does in the table of this number, and what is recorded of it
+-- ---- what a command does in the table with this number, and what is recorded of it
 
 pub record InsertsRow (table : Table) (number : ℕ) (old new : TableRows) (row : List Datum) (change : ChangeOf) : Type
     0 where

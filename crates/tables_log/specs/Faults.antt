@@ -13,7 +13,7 @@ fault_view (f.Row fault) = c.Unfit fault
 fault_view f.NoSuchRow = c.NoSuchRow
 fault_view f.DuplicateKey = c.DuplicateKey
 
--- out of memory may come in place of any fault
+-- out of memory may come instead of any fault
 abbrev pub Tells : Refused → Option c.CommandFault → Type 0
 Tells (Fault found) fault = fault ≡ Some (fault_view found)
 Tells OutOfMemory fault = Unit {0}

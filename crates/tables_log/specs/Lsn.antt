@@ -2,7 +2,7 @@
 -- Formats": Begin). How they are assigned to commits is this project's own.
 use Rattle.std.specs.Prelude.{ℕ, ◌+◌, ◌-◌, ◌*◌, ◌/◌}
 
--- where the commit of this number begins, counted from 1
+-- where the commit with this number begins, counted from 1
 abbrev pub lsn_of : ℕ → ℕ
 lsn_of number = 64 * number
 

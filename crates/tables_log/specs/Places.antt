@@ -60,7 +60,7 @@ widths tables = map (λ rows. length rows.maps.items) tables
 
 -- ---- rows that come and go in one table
 
--- the value in the key of this number, if there is one
+-- the value in the key with this number, if there is one
 abbrev pub value_of : List (Option (List Datum)) → ℕ → Option (List Datum)
 value_of values number = flat (slice_get values number)
 
@@ -85,7 +85,7 @@ pub record KeepsRows (old new : TableRows) : Type 0 where
       → kept_at new.maps.items number value ≡ kept_at old.maps.items number value
   pub width : length new.maps.items ≡ length old.maps.items
 
--- at the place of this value, if there is one, of the key of this number there is this row, or none
+-- at the place of this value, if there is one, of the key with this number there is this row, or none
 pub record PutsOne (old new : TableRows) (number : ℕ) (value : Option (List Datum)) (row : Option (List Datum)) : Type
     0 where
   pub sees : (other : ℕ) (found : List Datum) → seen_at new.maps.items other found
@@ -122,7 +122,7 @@ pub record KeepsTables (old new : List TableRows) : Type 0 where
   pub keeps : SameTables (kept_in new) (kept_in old)
   pub width : widths new ≡ widths old
 
--- of the table of this number nothing is seen, and of the others what was seen before
+-- of the table with this number nothing is seen, and of the others what was seen before
 pub record EmptiesTable (old new : List TableRows) (number : ℕ) : Type 0 where
   pub sees : (other key : ℕ) (value : List Datum)
       → seen_in new other key value ≡ (if number == other then None else seen_in old other key value)

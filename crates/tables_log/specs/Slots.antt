@@ -10,7 +10,7 @@ abbrev pub confirmed_of : Option Slot → ℕ
 confirmed_of None = 0
 confirmed_of (Some slot) = slot.confirmed
 
--- the confirmed position of the slot of this number; 0 if it doesn't exist
+-- the confirmed position of the slot with this number; 0 if it does not exist
 abbrev pub confirmed_at : List Slot → ℕ → ℕ
 confirmed_at slots number = confirmed_of (slice_get slots number)
 

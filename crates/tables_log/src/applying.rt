@@ -84,7 +84,7 @@ fn replace(
     Ok(old)
 }
 
-/// The table of this number.
+/// The table with this number.
 fn known(checked: &Checked, number: TableNumber) -> Result<&Table, CommandFault>
     ensures known { IfOk result (λ table. slice_get (checked_view checked.now).catalog.tables number ≡ Some table.now) }
     ensures unknown { IfErr result (λ fault. fault ≡ CommandFault.NoTable) }

@@ -106,7 +106,7 @@ impl Book {
     /// # Errors
     ///
     /// The first of `EmptyTransaction`, `TooManyCommands` (more than 1,000), `LogFull`, and `At` with the number, from
-    /// 1, of the first command that has a fault, and the fault; or `OutOfMemory` in place of such a fault if an
+    /// 1, of the first command that has a fault, and the fault; or `OutOfMemory` instead of such a fault if an
     /// allocation was refused. The others need no memory.
     ///
     /// PostgreSQL 15, 3.4. Transactions, and Chapter 6 Data Manipulation.
@@ -159,7 +159,7 @@ impl Book {
         self.log.len() as u32
     }
 
-    /// The commit of this number: `Some` for 1 to `log_len()`.
+    /// The commit with this number: `Some` for 1 to `log_len()`.
     #[tactic(auto, using(crate::proofs::BookLemmas::found_numbered))]
     pub fn entry(&self, number: CommitNumber) -> Option<&Commit>
         ensures shows { option_map (λ commit. commit.now) result ≡ entry_at (book_log self.now) number }
@@ -171,8 +171,8 @@ impl Book {
         }
     }
 
-    /// Another reference to the commit of this number: `Some` for 1 to `log_len()`. The only error is that an existing
-    /// commit is shared too often.
+    /// Another reference to the commit with this number: `Some` for 1 to `log_len()`. The only error is that an
+    /// existing commit is shared too often.
     #[tactic(auto, using(crate::proofs::BookLemmas::found_numbered))]
     pub fn shared(&self, number: CommitNumber) -> Result<Option<Arc<Commit, Global>>, AllocError>
         ensures shows { IfOk result (λ found. option_map (λ commit. arc_value commit) found ≡ entry_at
@@ -186,7 +186,7 @@ impl Book {
         Ok(Some(Arc::try_clone(&entry.commit)?))
     }
 
-    /// The entry of this number: `Some` for 1 to `log_len()`. The only error is that an existing entry is shared too
+    /// The entry with this number: `Some` for 1 to `log_len()`. The only error is that an existing entry is shared too
     /// often.
     #[tactic(auto, using(crate::proofs::BookLemmas::found_numbered))]
     pub fn routed(&self, number: CommitNumber) -> Result<Option<Routed>, AllocError>
@@ -202,7 +202,7 @@ impl Book {
         Ok(Some(found.try_clone()?))
     }
 
-    /// The subscribers that get something of the commit of this number; none if there is no such commit.
+    /// The subscribers that get something of the commit with this number; none if there is no such commit.
     ///
     /// PostgreSQL 15, "Logical Replication", 31.3.3 UPDATE Transformations.
     pub fn concerned(&self, number: CommitNumber) -> OwnerSet
@@ -247,8 +247,8 @@ impl Book {
     }
 
     /// Copies of the table's rows, in their order: NULL first, numbers by their size, FALSE before TRUE, texts byte by
-    /// byte, by the first column in which the rows differ. There are none if the table doesn't exist. The only error is
-    /// out of memory.
+    /// byte, by the first column in which the rows differ. There are none if the table does not exist. The only error
+    /// is out of memory.
     ///
     /// PostgreSQL 15, 7.5 Sorting Rows.
     pub fn rows(&self, table: TableNumber) -> Result<Vec<Row>, AllocError>
@@ -323,14 +323,14 @@ impl Book {
         Ok(())
     }
 
-    /// The rows of the table of this number.
+    /// The rows of the table with this number.
     fn table(&self, number: TableNumber) -> Option<&TableRows>
         ensures { option_copied result ≡ slice_get self.now.tables.items number }
     {
         self.tables.get(number)
     }
 
-    /// The entry of this number.
+    /// The entry with this number.
     fn place(&self, number: CommitNumber) -> Option<&Routed>
         ensures shows { option_map (λ entry. commit_in entry.now) result ≡ entry_at (book_log self.now) number }
         ensures routed { IfSome result (λ entry. IsRouted (book_checked self.now).plan entry.now) }

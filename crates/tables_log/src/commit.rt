@@ -63,7 +63,7 @@ fn same_changes(one: &[Change], other: &[Change]) -> bool
 }
 
 impl Commit {
-    /// The commit of this number, time and changes.
+    /// The commit with this number, time and changes.
     pub(crate) fn new(number: CommitNumber, time: u64, changes: Vec<Change>) -> Commit
         requires { IsSendable (commit_of number time (map change_view changes.items)) }
         ensures { result ≡ commit_of number time (map change_view changes.items) }

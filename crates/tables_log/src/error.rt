@@ -9,17 +9,17 @@ use thiserror::Error;
 /// PostgreSQL 15, 5.4.3 Unique Constraints, 5.4.4 Primary Keys, 11.6 Unique Indexes.
 #[derive(Clone, Copy, Debug, PartialEq, Eq, Error)]
 pub enum CommandFault {
-    /// There is no table of this number, or TRUNCATE names none.
+    /// There is no table with this number, or TRUNCATE names none.
     #[error("there is no such table")]
     NoTable,
-    /// The row doesn't fit its table.
+    /// The row does not fit its table.
     #[error("the row does not fit its table: {0}")]
     Row(RowFault),
     /// No row of the table has this primary key.
     #[error("no row of the table has this key")]
     NoSuchRow,
     /// Another row of the table has the row's value in its primary key or in a unique index.
-    #[error("another row of the table has the row's value in the primary key or in a unique index")]
+    #[error("another row has the same value in the primary key or in a unique index")]
     DuplicateKey,
 }
 
@@ -65,10 +65,10 @@ impl<T: Drop> From<AllocFailed<T>> for CommitError {
     }
 }
 
-/// Why a stream can't start.
+/// Why a stream cannot start.
 #[derive(Clone, Copy, Debug, PartialEq, Eq, Error)]
 pub enum StartError {
-    /// There is no slot of this number.
+    /// There is no slot with this number.
     #[error("there is no such slot")]
     NoSlot,
     /// The position is after the end of the log.
@@ -84,7 +84,7 @@ pub enum StartError {
 #[error("the position is after what was sent")]
 pub struct StatusAhead;
 
-/// Why a command isn't staged: its fault, or memory ran out.
+/// Why a command is not staged: its fault, or memory ran out.
 pub(crate) enum Refused {
     Fault(CommandFault),
     OutOfMemory,

@@ -68,7 +68,7 @@ fn index_value(alloc: Global, index: &UniqueIndex, row: &Row) -> Result<Option<K
     }
 }
 
-/// The row's value in the unique key of this number: 0 is the primary key, and the unique indexes follow in their
+/// The row's value in the unique key with this number: 0 is the primary key, and the unique indexes follow in their
 /// order. The only error is out of memory.
 ///
 /// PostgreSQL 15, 5.4.4 Primary Keys, 11.6 Unique Indexes.

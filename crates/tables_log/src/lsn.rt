@@ -35,14 +35,14 @@ impl Lsn {
         Lsn { bytes }
     }
 
-    /// Where the commit of this number begins.
+    /// Where the commit with this number begins.
     pub fn of_commit(number: CommitNumber) -> Lsn
         ensures { result ≡ lsn_of number }
     {
         Lsn::new(64 * u64::from(number))
     }
 
-    /// Where the commit of this number ends; of 0, where the log begins.
+    /// Where the commit with this number ends; of 0, where the log begins.
     pub fn end_of_commit(number: CommitNumber) -> Lsn
         ensures { result ≡ end_lsn_of number }
     {
@@ -86,7 +86,7 @@ impl Lsn {
     }
 }
 
-/// The transaction number of the commit of this number: 3 for the first one, since PostgreSQL reserves 0 to 2.
+/// The transaction number of the commit with this number: 3 for the first one, since PostgreSQL reserves 0 to 2.
 ///
 /// PostgreSQL 15, 55.9. Logical Replication Message Formats (Begin).
 pub fn xid_of_commit(number: CommitNumber) -> u32

@@ -56,7 +56,7 @@ impl TableRows {
         Ok(TableRows { maps })
     }
 
-    /// The row that is seen by this value of the unique key of this number.
+    /// The row that is seen by this value of the unique key with this number.
     pub(crate) fn find(&self, number: usize, value: &Row) -> Option<&TableRow>
         ensures { option_map (λ row. row.now) result ≡ seen_at self.now.maps.items number value.now }
     {
@@ -66,7 +66,7 @@ impl TableRows {
         }
     }
 
-    /// The row that is kept by this value of the unique key of this number.
+    /// The row that is kept by this value of the unique key with this number.
     pub(crate) fn get(&self, number: usize, value: &Row) -> Option<&TableRow>
         ensures { option_map (λ row. row.now) result ≡ kept_at self.now.maps.items number value.now }
     {
@@ -90,7 +90,7 @@ impl TableRows {
         Ok(rows)
     }
 
-    /// Stages the row in the map of this number under this key, and returns whether a row was seen there. The only
+    /// Stages the row in the map with this number under this key, and returns whether a row was seen there. The only
     /// error is out of memory.
     #[tactic(auto, using(crate::proofs::Rules::putting))]
     fn put_at(&mut self, number: usize, key: Key, row: &TableRow) -> Result<bool, AllocError>
@@ -105,7 +105,7 @@ impl TableRows {
         Ok(was)
     }
 
-    /// Stages that there is no row in the map of this number under this key. The only error is out of memory.
+    /// Stages that there is no row in the map with this number under this key. The only error is out of memory.
     #[tactic(auto, using(crate::proofs::PlaceLemmas::puts_there, crate::proofs::PlaceLemmas::keeps_there))]
     fn take_at(&mut self, number: usize, key: Key) -> Result<(), AllocError>
         requires { number < length self.old.maps.items }
@@ -117,7 +117,7 @@ impl TableRows {
         Ok(())
     }
 
-    /// Stages the row in the map of this number, if it has a value there, and returns whether a row was seen by that
+    /// Stages the row in the map with this number, if it has a value there, and returns whether a row was seen by that
     /// value. The only error is out of memory.
     #[tactic(auto, using(crate::proofs::Rules::placing))]
     fn place_one(
@@ -143,7 +143,7 @@ impl TableRows {
         }
     }
 
-    /// Stages that the row is not in the map of this number. The only error is out of memory.
+    /// Stages that the row is not in the map with this number. The only error is out of memory.
     #[tactic(auto, using(crate::proofs::Rules::taking))]
     fn take_one(
         &mut self,

@@ -11,13 +11,13 @@ use thiserror::Error;
 /// Why a subscriber stops. After each of these it is closed until it is opened again.
 #[derive(Clone, Copy, Debug, PartialEq, Eq, Error)]
 pub enum SubFault {
-    /// The bytes can't be cut into frames, or a frame of the stream is too short for what it carries by its kind.
+    /// The bytes cannot be cut into frames, or a frame of the stream is too short for what it carries by its kind.
     #[error("{0}")]
     Frame(FrameFault),
     /// The bytes are not a message of the protocol.
     #[error("{0}")]
     Msg(MsgError),
-    /// A frame or a message that can't come here: a change outside a transaction, a transaction within another, a
+    /// A frame or a message that cannot come here: a change outside a transaction, a transaction within another, a
     /// Commit with another LSN than its Begin, or a Relation other than the one that was kept for its OID.
     #[error("unexpected frame or message")]
     OutOfPlace,
