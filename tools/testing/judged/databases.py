@@ -189,7 +189,7 @@ DATABASES = [
             lost WHERE (hashtext(name) % 3 = 1);
         CREATE PUBLICATION p2 FOR TABLE users WHERE (abs(hashtext(name) % 3) = 2), lost WHERE (hashtext(name) % 3 = 2);
     """, {"users": "sound", "lost": "not sound:", "rare": "not decided"},
-        told=["of hashtext(name) only the type is known"]),
+        told=["judge does not know which values hashtext(name) has; write the filters as a condition on it, NOT"]),
     # Functions of texts: with the same function on both sides, there is a proof. coalesce is read as it is.
     Case("functions", """
         CREATE TABLE mails (address text PRIMARY KEY);

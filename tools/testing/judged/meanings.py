@@ -164,4 +164,14 @@ MEANINGS = [
         rows={"people": "SELECT n, (ARRAY['D', 'DE', 'C', '', 'E'])[n] FROM generate_series(1, 5) AS n",
               "days": "SELECT n, date '2023-12-25' + n FROM generate_series(0, 20) AS n",
               "places": "SELECT n, substr('bbbab', n) FROM generate_series(1, 6) AS n"}),
+    # Two functions of which judge does not know that they are one, and what it advises.
+    Case("two_lengths", """
+        CREATE TABLE words (word text PRIMARY KEY);
+        CREATE TABLE advised (word text PRIMARY KEY);
+        CREATE PUBLICATION short FOR TABLE words WHERE (length(word) < 5), advised WHERE (length(word) < 5);
+        CREATE PUBLICATION long FOR TABLE words WHERE (char_length(word) >= 5), advised WHERE (NOT length(word) < 5);
+        CREATE PUBLICATION none FOR TABLE words WHERE (length(word) IS NULL), advised WHERE (length(word) IS NULL);
+    """, {"words": "not decided", "advised": "sound"},
+        told=["judge does not know how the values of char_length(word) and length(word) are related; write the filters "
+              "with one of these expressions only: a condition on it, NOT of that condition, and IS NULL of the"]),
 ]
