@@ -19,7 +19,7 @@ PAGES = {
     "pgshard-front": ("front", "--help"),
 }
 
-HEADING = re.compile(r"([A-Za-z][\w ,']*):")
+HEADING = re.compile(r"([A-Za-z][\w ,'-]*):")
 # An item of a list, whose text may begin on the next line.
 ITEM = re.compile(r"( {1,6})(\S+(?: \S+)*)(?: {2,}(\S.*))?")
 
@@ -88,12 +88,21 @@ def options_of(help: str) -> str:
     return "\n".join(parts)
 
 
+def statuses_of(help: str) -> str:
+    """Returns the exit statuses, and those with some options, each list of which has a heading that begins `with`."""
+    parts = [listed(items_of(section_of(help, "exit status")))]
+    for heading, lines in sections_of(help):
+        if heading.startswith("with "):
+            parts += [".PP", f"{literal(heading[0].upper() + heading[1:])}:", listed(items_of(lines))]
+    return "\n".join(parts)
+
+
 def page(source: str, help: str, values: dict[str, str]) -> str:
     """Returns a page, from its source and the command's help."""
     values = values | {
         "OPTIONS": options_of(help),
         "COMMANDS": listed(items_of(section_of(help, "commands"))),
-        "EXIT_STATUS": listed(items_of(section_of(help, "exit status"))),
+        "EXIT_STATUS": statuses_of(help),
     }
     return re.sub(r"@(\w+)@", lambda found: values[found[1]], source)
 

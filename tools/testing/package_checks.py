@@ -158,6 +158,9 @@ def check_pages(tally: Tally, folder: Path) -> None:
         tally.check(f"{path.name} has the version", f'"pgshard {VERSION}"' in text.splitlines()[0], True)
         for command in "man --warnings -l", "mandoc -T lint -W warning", "groff -man -ww -K utf8 -z":
             check_page(tally, command.split(), path, text)
+    judging = gzip.decompress((folder / "pgshard-judge.1.gz").read_bytes()).decode()
+    for status in "11", "critical: ", "unknown: ":
+        tally.check(f"the status {status} in the manual page", status in judging.partition("EXIT STATUS")[2], True)
     commands = gzip.decompress((folder / "pgshard.1.gz").read_bytes()).decode()
     listed = [name for name in ("show", "make", "check", "eval", "simulate", "judge", "front") if f"\\fB{name}\\fR" not in commands]
     tally.check("commands that the manual lacks", listed, [])

@@ -233,7 +233,7 @@ def check_help(tally: Tally, root: Path) -> None:
     for words in ("help",), ("--help",), ("-h",):
         status, shown, _ = ran(script, *words, folder=root)
         found = COMMAND.findall(shown.partition("Options:")[0])
-        tally.check(f"the commands of {words[0]}", (status, found), (0, [*listed, "judge", "front", "help"]))
+        tally.check(f"the commands of {words[0]}", (status, found), (0, ["judge", *listed, "front", "help"]))
     with full_device() as full:
         for words in (("--help",), ("make", "--help"), ("help", "serve")) if full is not None else ():
             answer = subprocess.run([script, *words], stdout=full, stderr=subprocess.DEVNULL)

@@ -46,9 +46,12 @@ with --detailed-status, instead of 1, the first of these that applies:
   3   a table is not read
   9   nothing is published
 
-with --nagios: 2 (critical) a table is not sound or refused; 1 (warning) a table is not decided, a filter fails with
---strict, nothing is published, or a subscription or slot is not used; 3 (unknown) a table is not read, or there is no
-judgement"""
+with --nagios, the first of these that applies:
+  2   critical: a table is not sound or refused
+  1   warning: a table is not decided; nothing is published; a subscription is disabled, or a slot is missing or not
+      used; with --strict, a filter fails at a row
+  3   unknown: a table is not read, or there is no judgement
+  0   ok: every published table is sound"""
 
 
 @dataclass
