@@ -31,13 +31,13 @@ TABLES, TABLES_WITH_COLUMNS = [Form(f"""
 LONGEST_NAME = 63
 
 NO_COPY = frames.error(
-    "0A000", "tools/front has tables to copy only as they are at the beginning of the log, which is empty",
+    "0A000", "pgshard front has tables to copy only as they are at the beginning of the log, which is empty",
     "A subscription copies them by slots of its own. Other clients start their streams from 0/0.")
 NO_SQL = frames.error(
     "0A000", "this is pgshard front, which relays the streams of pgshard serve and runs no SQL",
     "It answers START_REPLICATION SLOT .. LOGICAL, and what clients ask before that.")
 NO_CATALOG = frames.error(
-    "0A000", "tools/front was given no catalog, so it does not know the tables of publications",
+    "0A000", "pgshard front was given no catalog, so it does not know the tables of publications",
     "Start it with --catalog FILE, the input of pgshard serve or its first part.")
 
 

@@ -95,25 +95,29 @@ def check(parser: argparse.ArgumentParser, options: argparse.Namespace) -> None:
 
 def port(word: str) -> int:
     """A port to listen on."""
-    number = int(word)
-    if not 0 <= number <= 65535:
-        raise ValueError
-    return number
+    return port_from(0, word)
 
 
 def served_port(word: str) -> int:
     """The port of a server."""
-    number = port(word)
-    if number == 0:
-        raise ValueError
-    return number
+    return port_from(1, word)
+
+
+def port_from(least: int, word: str) -> int:
+    """A port that is not less than this."""
+    if not word.isdecimal() or not least <= int(word) <= 65_535:
+        raise argparse.ArgumentTypeError(f"it takes {least} to 65535, not {word}")
+    return int(word)
 
 
 def seconds(word: str) -> float:
     """A time limit."""
-    number = float(word)
+    try:
+        number = float(word)
+    except ValueError:
+        number = 0
     if not 0 < number <= 86_400:
-        raise argparse.ArgumentTypeError(f"{word} is not a number of seconds up to 86400")
+        raise argparse.ArgumentTypeError(f"it takes seconds above 0 and up to 86400, not {word}")
     return number
 
 

@@ -53,7 +53,7 @@ async def greet(client: Peer, terms: Terms) -> Guest | None:
         return None
     version = int.from_bytes(packet[:4], "big")
     if version >> 16 != VERSION_3 >> 16:
-        raise Denied("0A000", "tools/front supports only protocol version 3.0")
+        raise Denied("0A000", "pgshard front supports only protocol version 3.0")
     words = packet[4:].decode(errors="replace").split("\0")
     given = dict(zip(words[::2], words[1::2]))
     encoding = given.get("client_encoding", "").replace("-", "").replace("_", "").upper()
@@ -77,7 +77,7 @@ async def first_packet(client: Peer, terms: Terms) -> bytes:
         else:
             await client.send(b"N")
     if terms.tls is not None and not is_secure and packet[:4] != CANCEL:
-        raise Denied("28000", "tools/front accepts only TLS connections; use sslmode=require")
+        raise Denied("28000", "pgshard front accepts only TLS connections; use sslmode=require")
     return packet
 
 

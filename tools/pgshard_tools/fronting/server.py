@@ -22,7 +22,7 @@ FILES = 2
 BACKLOG = 256
 
 TOO_MANY = Denied("53300", "sorry, too many clients already")
-SHUT_DOWN = Denied("57P01", "terminating connection because tools/front is shutting down")
+SHUT_DOWN = Denied("57P01", "terminating connection because pgshard front is shutting down")
 
 logger = logging.getLogger("front")
 
@@ -86,9 +86,9 @@ class Front:
         self.sessions.pop(session, None)
         session.client.close()
         if task.cancelled():
-            logger.info("%s %s: ended by tools/front", address, session.story)
+            logger.info("%s %s: ended by pgshard front", address, session.story)
         elif (fault := task.exception()) is not None:
-            logger.error("%s %s: a fault of tools/front: %r", address, session.story, fault)
+            logger.error("%s %s: a fault of pgshard front: %r", address, session.story, fault)
         else:
             logger.info("%s %s: %s", address, session.story, task.result())
 

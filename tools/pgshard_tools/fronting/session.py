@@ -27,8 +27,8 @@ from pgshard_tools.fronting.starting import Start, start_of
 from pgshard_tools.fronting.streaming import Stream
 from pgshard_tools.fronting.tokens import Token, TooManyTokens, tokens_of
 
-TOO_COMPLEX = frames.error("54001", "statement too complex for tools/front")
-NO_EXTENDED = frames.error("0A000", "tools/front supports only simple queries")
+TOO_COMPLEX = frames.error("54001", "statement too complex for pgshard front")
+NO_EXTENDED = frames.error("0A000", "pgshard front supports only simple queries")
 
 LOST = frames.error("08006", "the connection to pgshard serve has ended", severity="FATAL")
 TOO_LATE = frames.error("57014", "canceling authentication due to timeout", severity="FATAL")
@@ -237,7 +237,7 @@ class Session:
             return await peer_at(self.backend.port, "pgshard serve", self.backend.seconds)
         except (OSError, TimeoutError) as fault:
             why = getattr(fault, "strerror", None) or f"no answer within {self.backend.seconds:g} seconds"
-            raise Refused("08001", f"no pgshard serve is at port {self.backend.port}: {why}") from fault
+            raise Refused("08001", f"no pgshard serve or publish is at port {self.backend.port}: {why}") from fault
 
     async def answer_of(self, publisher: Peer, query: bytes) -> Frame:
         """Returns the publisher's answer, unless it takes too long, or the client leaves first."""

@@ -19,7 +19,7 @@ COPIES = re.compile(r"pg_[0-9]{1,10}_sync_[0-9]{1,10}_[0-9]{1,20}", re.ASCII)
 MOST_COPIES = 1_000
 MOST_UNNAMED = 1_000
 
-ANEW = "Restart pgshard serve and tools/front together to start all slots from the beginning."
+ANEW = "Restart pgshard serve and pgshard front together to start all slots from the beginning."
 
 
 class Refused(Exception):
@@ -127,7 +127,7 @@ class Slots:
                 "To drop a subscription without its slot, use ALTER SUBSCRIPTION .. SET (slot_name = NONE) first. "
                 f"{ANEW}")
         if self.names is None and len(self.known) >= MOST_UNNAMED and slot.name not in self.known:
-            raise Refused("53400", "too many replication slots", "Start tools/front with --catalog FILE.")
+            raise Refused("53400", "too many replication slots", "Start pgshard front with --catalog FILE.")
         slot.is_promised = True
         self.keep(slot)
 

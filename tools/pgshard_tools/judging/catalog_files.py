@@ -12,6 +12,15 @@ from pgshard_tools.judging.options import Options
 from pgshard_tools.judging.refusals import missing_words
 from pgshard_tools.judging.verdicts import Verdict
 
+# A subscription in a schema would connect to another server, unless it has the option that pg_dump writes. Those in
+# pgshard's own texts have no options.
+SUBSCRIPTION = re.compile(r"\bCREATE\s+SUBSCRIPTION\b([^;]*)", re.I)
+UNCONNECTED = re.compile(r"\bconnect\s*=\s*'?(?:false|off|no|0)\b", re.I)
+# The kinds of faults of texts that a server may accept.
+OF_SCHEMAS = {"LeftOut", "ColumnList", "NoKey"}
+AS_SCHEMA = ("CREATE SUBSCRIPTION makes the file a catalog text; with connect = false in each of them, judge reads it as "
+             "a schema")
+
 
 @dataclass
 class Names:
@@ -82,11 +91,18 @@ def why_not_read(fault: program.Unreadable, catalog: str) -> str:
     there = " ".join(catalog[at:].split("\n", 1)[0][:60].split()) or "the end of the text"
     # Of a long line, only the part around the fault is shown.
     cut = max(0, at - begin - 70)
+    has_cause = fault.kind in OF_SCHEMAS and connecting(catalog)
     return "\n".join([
         f"refused: line {before.count(chr(10)) + 1} of the catalog, {fault.kind} at: {there}",
         f"    {line[cut:cut + 110]}",
         f"    {' ' * (at - begin - cut)}^ {KINDS.get(fault.kind, fault.kind)}",
+        *([AS_SCHEMA] if has_cause else []),
     ])
+
+
+def connecting(text: str) -> list[int]:
+    """Returns where subscriptions are created that would connect to another server."""
+    return [it.start() for it in SUBSCRIPTION.finditer(text) if not UNCONNECTED.search(it[1])]
 
 
 def names_of(catalog: str) -> Names:

@@ -10,6 +10,7 @@ from pgshard_tools.judging.faults import BAD_COMMAND, Fault
 
 VARIABLE = "subscriptions"
 SECONDS = 10.0
+MOST_SECONDS = 1_000_000
 MOST_ROWS = 10_000
 
 DESCRIPTION = """\
@@ -190,18 +191,20 @@ def add_connection(found: Parser) -> None:
 
 def seconds(text: str) -> float:
     """Parses a positive time."""
-    value = float(text)
-    if not 0 < value < 1e6:
-        raise ValueError(text)
+    try:
+        value = float(text)
+    except ValueError:
+        value = 0
+    if not 0 < value < MOST_SECONDS:
+        raise argparse.ArgumentTypeError(f"it takes seconds above 0 and below {MOST_SECONDS:,}, not {text}")
     return value
 
 
 def number_of_rows(text: str) -> int:
     """Parses the number of rows of a table to list."""
-    value = int(text)
-    if not 0 < value <= MOST_ROWS:
-        raise ValueError(text)
-    return value
+    if not text.isdecimal() or not 0 < int(text) <= MOST_ROWS:
+        raise argparse.ArgumentTypeError(f"it takes 1 to {MOST_ROWS:,}, not {text}")
+    return int(text)
 
 
 def options_of(words: Sequence[str]) -> Options:

@@ -142,9 +142,21 @@ def repairs_of(repairer: Repairer, found: Sequence[Verdict]) -> list[Repair]:
     for word in repairer.options.repair:
         name = word if word in by_name else f"public.{word}"
         if name not in by_name:
-            raise Fault(BAD_COMMAND, f"--repair {word}: no such table is published")
+            raise Fault(BAD_COMMAND, f"--repair {word}: {why_not_judged(repairer.db, word, list(by_name))}")
         listed.append(repairer.repair(tables[name], by_name[name]))
     return listed
+
+
+def why_not_judged(db: Database, word: str, judged: Sequence[str]) -> str:
+    """Returns why a word names no table that is judged: its partitions may be, or a table of another schema."""
+    name = word if "." in word else f"public.{word}"
+    roots = {table["oid"] for table in db.tables if full_name(table) == name}
+    parts = [full_name(it) for it in db.tables if roots & set(it["ancestors"]) and full_name(it) in judged]
+    if parts:
+        return f"its partitions are judged one by one: {', '.join(parts)}"
+    others = [it for it in judged if it.partition(".")[2] == name.partition(".")[2]]
+    also = f"; {' and '.join(others)} {'is' if len(others) == 1 else 'are'}" if others else ""
+    return f"no table {name} is published{also}"
 
 
 def say(db: Database, listed: Sequence[Repair], options: Options) -> int:

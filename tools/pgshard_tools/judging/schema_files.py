@@ -9,17 +9,13 @@ from collections.abc import Iterator, Sequence
 from dataclasses import replace
 
 from pgshard_tools.judging import throwaway
-from pgshard_tools.judging.catalog_files import read_file, why_not_read
+from pgshard_tools.judging.catalog_files import connecting, read_file, why_not_read
 from pgshard_tools.judging.catalog_tokens import statements_of, stored
 from pgshard_tools.judging.faults import NO_ANSWER, NOT_READ, Fault
 from pgshard_tools.judging.options import Options
 from pgshard_tools.judging.program import Unreadable, run
 
 PUBLICATION = re.compile(r"\bCREATE\s+PUBLICATION\b", re.I)
-# A subscription in a schema would connect to another server, unless it has the option that pg_dump writes. Those in
-# pgshard's own texts have no options.
-SUBSCRIPTION = re.compile(r"\bCREATE\s+SUBSCRIPTION\b([^;]*)", re.I)
-UNCONNECTED = re.compile(r"\bconnect\s*=\s*'?(?:false|off|no|0)\b", re.I)
 CONNECTS = re.compile(r"\bALTER\s+SUBSCRIPTION\s+\S+\s+(?:REFRESH|ADD|DROP|ENABLE|SET\s+PUBLICATION)\b|"
                       r"\bDROP\s+SUBSCRIPTION\b", re.I)
 # A dump of several databases, or of one by pg_dump -C, continues in another database than the one that is judged.
@@ -44,7 +40,7 @@ MISSING = (
 def is_schema(path: str) -> bool:
     """Returns whether a file is a schema, and not a catalog text of pgshard."""
     text = read_file(path)
-    if any(not UNCONNECTED.search(it[1]) for it in SUBSCRIPTION.finditer(text)):
+    if connecting(text):
         return False
     made = run("make", text)
     if throwaway.programs() is None and isinstance(made, Unreadable):
@@ -84,8 +80,7 @@ def want_no_connection(path: str, text: str) -> None:
     if connect:
         line = text.count("\n", 0, connect.start()) + 1
         raise Fault(NOT_READ, f"refused: {path}:{line}: judge reads one database; dump it with pg_dump, without -C")
-    places = [it.start() for it in SUBSCRIPTION.finditer(text) if not UNCONNECTED.search(it[1])]
-    places += [it.start() for it in CONNECTS.finditer(text)]
+    places = [*connecting(text), *(it.start() for it in CONNECTS.finditer(text))]
     if places:
         line = text.count("\n", 0, min(places)) + 1
         raise Fault(NOT_READ, f"refused: {path}:{line}: the subscription would connect to its publisher; judge reads "

@@ -17,6 +17,14 @@ from tally import Tally
 
 Given, Found = TypeVar("Given"), TypeVar("Found")
 
+# A partitioned table that is not published as one.
+PARTS = """
+    CREATE TABLE log (id bigint PRIMARY KEY) PARTITION BY RANGE (id);
+    CREATE TABLE log_low PARTITION OF log FOR VALUES FROM (0) TO (100);
+    CREATE TABLE log_high PARTITION OF log FOR VALUES FROM (100) TO (200);
+    CREATE PUBLICATION p FOR TABLE log;
+"""
+
 
 @dataclass
 class Job:
@@ -116,13 +124,17 @@ def check_words(tally: Tally, server: Server) -> None:
     words = server.words("mend_identity")
     with tempfile.TemporaryDirectory() as folder:
         for given, fault in {
-            ("--repair", "none"): "--repair none: no such table is published",
+            ("--repair", "none"): "--repair none: no table public.none is published",
+            ("--repair", "other.t"): "--repair other.t: no table other.t is published; public.t is",
             ("--repair", "t", "--keep", "x"): "--keep x: no such subscriber; there are p",
             ("--keep", "p"): "--keep needs --repair",
             ("--repair", "t", "--prometheus", f"{folder}/metrics"):
                 "--repair prints statements, and cannot be combined with --nagios and --prometheus",
         }.items():
             tally.check(f"{' '.join(given[:3])}", judge(*words, *given), f"judge: {fault}\nstatus 2\n")
+    server.create("mend_parts", PARTS)
+    tally.check("a table whose partitions are judged", judge(*server.words("mend_parts"), "--repair", "log"), (
+        "judge: --repair log: its partitions are judged one by one: public.log_high, public.log_low\nstatus 2\n"))
     given = "--repair", "t", "--keep", "q", "--json"
     output, status = judge(*server.words("mend_two_of_all"), *given).rsplit("status ", 1)
     found = json.loads(output)

@@ -34,7 +34,7 @@ STALE = (
     'ERROR:  replication slot "{slot}" cannot be dropped, '
     "since it would not start from the beginning: its stream is known only from 0/380 on\n"
     "HINT:  To drop a subscription without its slot, use ALTER SUBSCRIPTION .. SET (slot_name = NONE) first. "
-    "Restart pgshard serve and tools/front together to start all slots from the beginning.\n")
+    "Restart pgshard serve and pgshard front together to start all slots from the beginning.\n")
 
 MADE = {"london": "copied_london", "tokyo": "copied_tokyo", "publisher": "copied_publisher"}
 

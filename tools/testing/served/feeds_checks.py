@@ -97,7 +97,7 @@ def check_feed(
 
 def faults(front: Started) -> list[str]:
     """Returns the lines of the log that report faults of the front itself."""
-    return [line for line in front.log if "fault of tools/front" in line]
+    return [line for line in front.log if "fault of pgshard front" in line]
 
 
 def made_by(*cuts: Cuts) -> int:

@@ -23,7 +23,7 @@ NO_SQL = (
     "ERROR:  this is pgshard front, which relays the streams of pgshard serve and runs no SQL\n"
     "HINT:  It answers START_REPLICATION SLOT .. LOGICAL, and what clients ask before that.\n")
 NO_COPY = (
-    "ERROR:  tools/front has tables to copy only as they are at the beginning of the log, which is empty\n"
+    "ERROR:  pgshard front has tables to copy only as they are at the beginning of the log, which is empty\n"
     "HINT:  A subscription copies them by slots of its own. Other clients start their streams from 0/0.\n")
 
 # What psql sends, and what it prints.
@@ -89,7 +89,7 @@ ASKED = [
 ]
 COLUMNS = ['public|t|{"id","a,b"}', 'S|T|{"id","Q"}', 'public|u|{"id"}']
 NO_CATALOG = (
-    "ERROR:  tools/front was given no catalog, so it does not know the tables of publications\n"
+    "ERROR:  pgshard front was given no catalog, so it does not know the tables of publications\n"
     "HINT:  Start it with --catalog FILE, the input of pgshard serve or its first part.\n")
 
 # Starts, each with what the publisher is sent if clients are told version 15.18.
@@ -223,7 +223,7 @@ def check_catalog(tally: Tally, port: int) -> None:
     tally.check("the columns of tables", found.splitlines(), COLUMNS)
     tally.check("the publications that are there", psql(port, PUBLICATIONS_OF), "first\nmixed\n")
     found = psql(port, START.format(version=1))
-    tally.check("a start where nobody listens", found.startswith("ERROR:  no pgshard serve is at port "), True)
+    tally.check("a start where nobody listens", found.startswith("ERROR:  no pgshard serve or publish is at port "), True)
 
 
 def check_packets(tally: Tally, port: int) -> None:

@@ -54,7 +54,7 @@ def not_dropped(subscriber: Subscriber, position: int) -> str:
         f'ERROR:  replication slot "{subscriber.slot}" cannot be dropped, since it would not start from the beginning: '
         f"its stream is known only from {messages.written(position)} on\n"
         "HINT:  To drop a subscription without its slot, use ALTER SUBSCRIPTION .. SET (slot_name = NONE) first. "
-        "Restart pgshard serve and tools/front together to start all slots from the beginning.\n")
+        "Restart pgshard serve and pgshard front together to start all slots from the beginning.\n")
 
 
 def start_words(subscriber: Subscriber, position: int, file: pathlib.Path) -> list[str]:

@@ -18,7 +18,7 @@ from .program import fronting, nobody
 PASSWORD = "a, long=password"
 DENIED = 'FATAL:  password authentication failed for user "postgres"\n'
 NOT_SENT = "fe_sendauth: no password supplied\n"
-PLAIN = "FATAL:  tools/front accepts only TLS connections; use sslmode=require\n"
+PLAIN = "FATAL:  pgshard front accepts only TLS connections; use sslmode=require\n"
 
 TLS = struct.pack("!I", 80877103)
 # The first message of the example in RFC 7677, and messages that are not a first message.

@@ -37,6 +37,18 @@ class Own(unittest.TestCase):
 
 
 class Faults(unittest.TestCase):
+    def test_ranges(self) -> None:
+        for words, why in {
+            ("--rows", "0"): "argument --rows: it takes 1 to 10,000, not 0",
+            ("--rows", "10001"): "argument --rows: it takes 1 to 10,000, not 10001",
+            ("--rows=-1",): "argument --rows: it takes 1 to 10,000, not -1",
+            ("--seconds", "0"): "argument --seconds: it takes seconds above 0 and below 1,000,000, not 0",
+            ("--watch", "often"): "argument --watch: it takes seconds above 0 and below 1,000,000, not often",
+        }.items():
+            with self.subTest(words), self.assertRaises(Fault) as raised:
+                options_of(words)
+            self.assertEqual(raised.exception.words, f"{why}; --help lists the options")
+
     def test_each_is_named(self) -> None:
         for words, named in {
             ("--strickt",): "--strickt", ("--exp",): "--exp", ("-x",): "-x", ("--copied",): "--copied",
