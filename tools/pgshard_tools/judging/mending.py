@@ -1,4 +1,4 @@
-"""What mends or allows what is refused of a table: statements, or an intention. Only what leaves no refusal is named."""
+"""What mends or allows what is refused of a table: statements, or an intention, after which nothing is refused."""
 
 import copy
 from collections.abc import Iterator

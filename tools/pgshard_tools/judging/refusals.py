@@ -15,7 +15,8 @@ CHANGES = {"update", "delete"}
 OMISSIBLE = ("update", "delete", "truncate")
 # Why a table has no replica identity that the server can use, by the identity's letter.
 WITHOUT_IDENTITY = {
-    "d": "it has no replica identity, such as a primary key that is not deferrable", "n": "its replica identity is NOTHING",
+    "d": "it has no replica identity, such as a primary key that is not deferrable",
+    "n": "its replica identity is NOTHING",
     "i": "the index of its replica identity is missing or not valid"}
 # The value with which a publication says that it publishes stored generated columns.
 STORED = "s"
