@@ -19,7 +19,8 @@ UNCONNECTED = re.compile(r"\bconnect\s*=\s*'?(?:false|off|no|0)\b", re.I)
 # The kinds of faults of texts that a server may accept.
 OF_SCHEMAS = {"LeftOut", "ColumnList", "NoKey"}
 AS_SCHEMA = (
-    "CREATE SUBSCRIPTION makes the file a catalog text; with connect = false in each of them, judge reads it as a schema")
+    "CREATE SUBSCRIPTION makes the file a catalog text; with connect = false in each of them, judge reads it as a "
+    "schema")
 
 
 @dataclass

@@ -32,8 +32,8 @@ ENDINGS = (signal.SIGTERM, signal.SIGHUP)
 
 class Input:
     """The input of a run, which is kept up to the length that the program reads of a text. A file is passed to the
-    program as it is. A pipe or a terminal is not read earlier than the program could read it, nor before the program has
-    begun."""
+    program as it is. A pipe or a terminal is not read before the program has begun, nor earlier than the program could
+    read it."""
 
     def __init__(self) -> None:
         self.is_pipe = not (stat.S_ISREG(os.fstat(0).st_mode) or stat.S_ISDIR(os.fstat(0).st_mode))
