@@ -99,7 +99,7 @@ TOLD = [
     # Outputs that give no position.
     (["make"], CATALOG, 0, "o 0\n", []),
     (["make"], CATALOG, 4, "", ["pgshard: cannot write the output"]),
-    (["serve", "--port", "1"], CATALOG, 4, "", ["pgshard: the port is not available"]),
+    (["serve", "--port", "1"], CATALOG, 4, "", []),
     (["serve", "--port", "1"], CATALOG, 4, "listening 1\n",
      ["pgshard: cannot write the output, or the listening socket failed"]),
     (["publish", "--port", "1"], CATALOG, 4, "", []),

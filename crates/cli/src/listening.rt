@@ -5,9 +5,12 @@ ghost use Rattle.std.specs.Io.KnownBytes.{Appends};
 ghost use Rattle.commands.specs.Output.{StopsText, ended};
 ghost use Rattle.cli.specs.Telling.{listening_line};
 
+use crate::publish::notices::tell_port;
+use crate::requests::LogFormat;
 use commands::{Failure, Writer, write_line};
 use std::alloc::Global;
 use std::net::{Ipv4Addr, Net, TcpListener, TcpStream};
+use std::time::Clock;
 
 /// Writes the line with the port, for which a client may wait.
 pub fn say_listening<'a, W: Writer>(
@@ -32,8 +35,8 @@ pub fn say_listening<'a, W: Writer>(
 ///
 /// # Errors
 ///
-/// `Output` if the port cannot be used, or the line cannot be written.
-pub fn listen<'a, W: Writer, R: Net<Listener = TcpListener, Stream = TcpStream>>(
+/// `Output` if the port cannot be used, which standard error reports, or the line cannot be written.
+pub fn listen<'a, W: Writer, R: Clock + Eprint + Net<Listener = TcpListener, Stream = TcpStream>>(
     rt: &R,
     alloc: Global,
     port: u16,
@@ -44,9 +47,14 @@ pub fn listen<'a, W: Writer, R: Net<Listener = TcpListener, Stream = TcpStream>>
         (W.contents writer.new)) }
     ensures flushed { OnOk result (W.is_flushed writer.new ≡ true) }
 {
-    let Ok(listener) = TcpListener::bind(rt, (Ipv4Addr::LOCALHOST, port)) else {
-        return Err(Failure::Output);
-    };
-    say_listening(alloc, port, writer)?;
-    Ok(listener)
+    match TcpListener::bind(rt, (Ipv4Addr::LOCALHOST, port)) {
+        Ok(listener) => {
+            say_listening(alloc, port, writer)?;
+            Ok(listener)
+        }
+        Err(error) => {
+            tell_port(rt, alloc, LogFormat::Text, port, &error);
+            Err(Failure::Output)
+        }
+    }
 }

@@ -20,7 +20,7 @@ mod door;
 mod hall;
 mod incoming;
 mod keepalives;
-mod notices;
+pub(crate) mod notices;
 mod objects;
 mod parting;
 mod parts;

@@ -41,11 +41,11 @@ def explained(words: list[str], source: Source, status: int, output: str) -> lis
 
 
 def of_failure(words: list[str], lines: list[str]) -> list[str]:
-    """Returns the sentence about an output that cannot be written, or a port that is not available. Before serve and
-    publish write their first line, only the port can be at fault, and publish says that itself."""
+    """Returns the sentence about an output that cannot be written. Before serve and publish write their first line,
+    only the port can be at fault, which the program reports itself."""
     is_serve = words[:1] == ["serve"]
     if not lines and (is_serve or words[:1] == ["publish"]):
-        return ["pgshard: the port is not available"] if is_serve else []
+        return []
     return [f"pgshard: cannot write the output{', or the listening socket failed' if is_serve else ''}"]
 
 
