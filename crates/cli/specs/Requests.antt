@@ -21,7 +21,8 @@ use Rattle.commands.specs.declared.failure.Status.{Status}
 -- The lines are the whole answer, and the status says whether it is a refusal; [] and 0 say that no row, table or step
 -- is left. `may_fail` says whether reads may fail, since a read that fails ends the commands of `publish`.
 abbrev pub IsAnswer : Bool → Request → List ℕ → List (List ℕ) → Status → Type 0
-IsAnswer may_fail (Eval table wanted) input lines status = evaluation.IsEvaluation wanted input table.now [] lines status
+IsAnswer may_fail (Eval table wanted) input lines status =
+    evaluation.IsEvaluation wanted input table.now [] lines status
 IsAnswer may_fail Show input lines status = showing.IsShowing input lines status
 IsAnswer may_fail (Check shows) input lines status = checking.IsCheck shows input lines status
 IsAnswer may_fail Make input lines status = making.IsMaking input 0 lines status

@@ -84,7 +84,8 @@ abbrev pub EndsFor : CheckedOf → List ℕ → Option (ℕ × ℕ) → List ℕ
 EndsFor checked bytes started response failed ended listener_end.SourceFailed = failed ≡ true
 EndsFor checked bytes started response failed ended listener_end.SourceEnded = ended ≡ true
 EndsFor checked bytes started response failed ended (listener_end.Frame kind) = HasEnd (frames_in bytes) kind
-EndsFor checked bytes started response failed ended (listener_end.Fault fault) = Faults checked bytes started response fault
+EndsFor checked bytes started response failed ended (listener_end.Fault fault) =
+    Faults checked bytes started response fault
 
 pub record EndsOf (checked : CheckedOf) (bytes : List ℕ) (old new : Listener) (failed ended : Bool)
     (why : ListenerEnd) : Type 0 where

@@ -18,7 +18,8 @@ pub record WritesFirst (before after : Option (List ℕ)) (failed : Bool) (bytes
 
 -- the response to a start that was refused, and else nothing
 abbrev pub AnswersAs : ListenerEnd → Option (List ℕ) → Option (List ℕ) → Bool → List ℕ → Type 0
-AnswersAs (listener_end.Fault (fault.BadStart state)) before after failed response = WritesFirst before after failed response
+AnswersAs (listener_end.Fault (fault.BadStart state)) before after failed response =
+    WritesFirst before after failed response
 AnswersAs other before after failed response = Appends before after []
 
 abbrev pub cause_by : ListenerEnd → End

@@ -67,7 +67,8 @@ pub record Streams (checked : CheckedOf) (slot start : ℕ) (before after : Opti
       → written ++ rest ≡ stream (telling_of checked) log slot (length checked.catalog.tables) start moves ++ last
   pub all : failed ≡ false → served.end ≢ end.Link fault.OutOfMemory → rest ≡ []
   pub whole : served.end ≡ end.Finished → IsTail rest last
-  pub answered : failed ≡ false → served.end ≡ end.Client → why ≡ Some (listener_end.Frame 99) → IsTail copy_done written
+  pub answered : failed ≡ false → served.end ≡ end.Client → why ≡ Some (listener_end.Frame 99)
+      → IsTail copy_done written
   pub ends : IsEndOf why failed served.end
 
 -- It was heard meanwhile.

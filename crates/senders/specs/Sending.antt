@@ -42,7 +42,8 @@ pub record Follows (old new : VoiceRun) (taken : List CommitOf) (bytes : List �
   pub passed_is : new.passed ≡ old.passed ++ bytes
 
 -- The voice continues its stream, and these bytes were written; others may wait.
-pub record TellsOn (before after : Option (List ℕ)) (taken : List CommitOf) (voice : Voice) (told : VoiceRun) : Type 0 where
+pub record TellsOn (before after : Option (List ℕ)) (taken : List CommitOf) (voice : Voice) (told : VoiceRun) :
+    Type 0 where
   pub now : VoiceRun
   pub bytes : List ℕ
   pub put : Appends before after bytes
@@ -62,7 +63,8 @@ AreQuietFor checked (voices.Started place) commits = ArePassed checked.plan plac
 AreQuietFor checked voices.Closed commits = Unit {0}
 
 -- The voice continues its stream, and these bytes were written, which are all.
-pub record GoesOn (before after : Option (List ℕ)) (taken : List CommitOf) (voice : Voice) (told : VoiceRun) : Type 0 where
+pub record GoesOn (before after : Option (List ℕ)) (taken : List CommitOf) (voice : Voice) (told : VoiceRun) :
+    Type 0 where
   pub now : VoiceRun
   pub bytes : List ℕ
   pub put : Appends before after bytes
@@ -71,7 +73,8 @@ pub record GoesOn (before after : Option (List ℕ)) (taken : List CommitOf) (vo
   pub quiet : IsQuiet voice now
 
 -- The sender stopped in the midst of it.
-pub record Breaks (before after : Option (List ℕ)) (taken : List CommitOf) (voice : Voice) (told : VoiceRun) : Type 0 where
+pub record Breaks (before after : Option (List ℕ)) (taken : List CommitOf) (voice : Voice) (told : VoiceRun) :
+    Type 0 where
   pub now : VoiceRun
   pub bytes : List ℕ
   pub put : Appends before after bytes
@@ -80,7 +83,8 @@ pub record Breaks (before after : Option (List ℕ)) (taken : List CommitOf) (vo
   pub spells : Spells now (voice_output voice) []
 
 -- Memory was refused, and nothing waits.
-pub record Starves (before after : Option (List ℕ)) (taken : List CommitOf) (voice : Voice) (told : VoiceRun) : Type 0 where
+pub record Starves (before after : Option (List ℕ)) (taken : List CommitOf) (voice : Voice) (told : VoiceRun) :
+    Type 0 where
   pub breaks : Breaks before after taken voice told
   pub none : voice_output voice ≡ []
 

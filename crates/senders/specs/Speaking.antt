@@ -49,16 +49,16 @@ pub data IsClosing (was now : SenderEnd) (why : Option ListenerEnd) (last : List
   Answers : now ≡ was → (why ≡ Some (listener_end.Frame 99) → last ≡ copy_done) → IsClosing was now why last
 
 -- Its first bytes were written, all but where the sink failed.
-pub record Closes (was now : SenderEnd) (why : Option ListenerEnd) (before after : Option (List ℕ)) (failed : Bool) : Type 0
-  where
-    pub last : List ℕ
-    pub said : IsSaid why last
-    pub closing : IsClosing was now why last
-    pub written : List ℕ
-    pub rest : List ℕ
-    pub bytes : written ++ rest ≡ last
-    pub put : Appends before after written
-    pub all : failed ≡ false → rest ≡ []
+pub record Closes (was now : SenderEnd) (why : Option ListenerEnd) (before after : Option (List ℕ)) (failed : Bool) :
+    Type 0 where
+  pub last : List ℕ
+  pub said : IsSaid why last
+  pub closing : IsClosing was now why last
+  pub written : List ℕ
+  pub rest : List ℕ
+  pub bytes : written ++ rest ≡ last
+  pub put : Appends before after written
+  pub all : failed ≡ false → rest ≡ []
 
 -- nothing was written
 pub record SaysNothing (was now : SenderEnd) (before after : Option (List ℕ)) (was_failed failed : Bool) : Type 0 where
@@ -80,9 +80,12 @@ IsQuietAt sender_end.WriteFault voice = Unit {0}
 IsQuietAt sender_end.OutOfMemory voice = Unit {0}
 
 -- how the sender stopped before, and with what is said last
-abbrev pub SaysLast : SenderEnd → SenderEnd → Option ListenerEnd → Option (List ℕ) → Option (List ℕ) → Bool → Bool → Type 0
-SaysLast sender_end.ConnectionEnded now why before after was_failed failed = Closes sender_end.ConnectionEnded now why before after failed
-SaysLast sender_end.Finished now why before after was_failed failed = Closes sender_end.Finished now why before after failed
+abbrev pub SaysLast : SenderEnd → SenderEnd → Option ListenerEnd → Option (List ℕ) → Option (List ℕ) → Bool → Bool
+    → Type 0
+SaysLast sender_end.ConnectionEnded now why before after was_failed failed =
+    Closes sender_end.ConnectionEnded now why before after failed
+SaysLast sender_end.Finished now why before after was_failed failed =
+    Closes sender_end.Finished now why before after failed
 SaysLast sender_end.WriteFault now why before after was_failed failed =
     SaysNothing sender_end.WriteFault now before after was_failed failed
 SaysLast sender_end.OutOfMemory now why before after was_failed failed =
