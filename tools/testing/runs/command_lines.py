@@ -41,7 +41,7 @@ WRONG_VALUES: list[tuple[tuple[str, ...], str]] = [
     (("serve", "--port", "5440", "--limit", "x"), "--limit takes 1 to 1000000000, not x"),
     (("serve", "--port", "5440", "--connections", "1001"), "--connections takes 1 to 1000, not 1001"),
     (("publish", "--port", "99999"), "--port takes 0 to 65535, not 99999"),
-    (("publish", "--port", "0", "--commands", "-1"), "--commands takes 0 to 65535, not -1"),
+    (("publish", "--port", "0", "--commands", "65536"), "--commands takes 0 to 65535, not 65536"),
     *((("publish", "--port", "0", option, "86401"), f"{option} takes 1 to 86400, not 86401")
       for option in ("--start-timeout", "--write-timeout", "--keepalive", "--timeout")),
     (("publish", "--port", "0", "--log", "xml"), "--log takes text or json"),
@@ -69,7 +69,7 @@ HELP: list[tuple[tuple[str, ...], str]] = [
     (("check", "--help"), "--show"),
     (("show", "--help"), "as SQL"),
     (("make", "--help"), "reads a catalog"),
-    (("--help",), "simulate and serve a catalog, certificates and a script"),
+    (("--help",), "\n  simulate, serve  a catalog, certificates, a script\n"),
     (("--help",), "\n  serve "),
     (("--help",), "and serves subscribers over sockets"),
     (("--help",), "\n  publish "),
