@@ -33,7 +33,7 @@ use Rattle.commands.specs.declared.failure.Status.TheVariants.{Refused}
 use Rattle.cli.proofs.LineLemmas.{at_end_of_all, ended_lines-line, ended_lines-plain, ended_lines-text, lines_of-text, no_first_part, no_second_part, parts_there, quit_plain, whole_unread}
 use Rattle.cli.specs.Lines.{AreLast, Ends, Fails, Quits, LacksPart, LineParts, ReadsPart, StopsPart, ended_lines, parts_of}
 use Rattle.cli.specs.Published.{AfterQuit, AreUnanswered, AreUnansweredFor, EndsPublishing, MayFail, NoneLeft, HasClosed, HasSaid, HasToldFirst, IsBegunPublishing, IsPublishHead, IsPublishing, IsTalk, Serves}
-use Rattle.cli.specs.Requests.{AnswersReader}
+use Rattle.cli.specs.Requests.{AcceptsInput, AnswersReader}
 use Rattle.cli.specs.Talks.{AreLastFor, Conversation}
 use Rattle.cli.specs.declared.requests.Feed.{Feed}
 use Rattle.cli.specs.declared.requests.Request.TheVariants.{Publish}
@@ -301,6 +301,21 @@ module _ (may_fail : Bool) (feed : Feed) (known old : Option (List ℕ)) where
 
         -- ---- the subscribers are served
 
+        pub accepted : IsSound catalog → IsFirstRefusal catalog (trees_in (lines_of certificates)) None
+            → AcceptsInput (Publish feed) known
+        accepted sound unrefused = record {
+          input = input_with given.0;
+          given = given.1;
+          accepts = record {
+            catalog = catalog;
+            parts = parts_with given.0;
+            head = is_head given.0;
+            sound = sound;
+            unrefused = subst (λ (lines : List (List ℕ)). IsFirstRefusal catalog (trees_in lines) None) certificates_are
+                unrefused;
+          };
+        }
+
         module _ (sound : IsSound catalog)
             (unrefused : IsFirstRefusal catalog (trees_in (lines_of certificates)) None)
             (later : Option (List ℕ)) where
@@ -347,11 +362,13 @@ module _ (may_fail : Bool) (feed : Feed) (known old : Option (List ℕ)) where
           listened lines said =
               let tail = (tail_of said.answers said.own said.conversation).0 in
               inr (record {
-                catalog = catalog;
-                parts = parts_with tail;
-                head = is_head tail;
-                sound = sound;
-                unrefused = unrefused_lines;
+                accepted = record {
+                  catalog = catalog;
+                  parts = parts_with tail;
+                  head = is_head tail;
+                  sound = sound;
+                  unrefused = unrefused_lines;
+                };
                 first = told_first lines said;
               })
 

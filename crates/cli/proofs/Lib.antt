@@ -1,6 +1,7 @@
 pub mod Answering
 pub mod Berths
 pub mod Callers
+pub mod Causes
 pub mod Crossing
 pub mod Exits
 pub mod Heads

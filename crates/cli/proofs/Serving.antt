@@ -153,15 +153,17 @@ module _ (service : Service) (input : List ℕ) (cut : CutTwice) (catalog : Cata
           (λ lines begun. elim begun [
             | inl none ↦ inl none
             | inr first ↦ inr (record {
-              cut = cut;
-              catalog = catalog;
-              parts = parts;
-              reads = reads;
-              certificates = certificates;
-              lists = lists;
-              script = script;
-              sound = sound;
-              unrefused = unrefused;
+              accepted = record {
+                cut = cut;
+                catalog = catalog;
+                parts = parts;
+                reads = reads;
+                certificates = certificates;
+                lists = lists;
+                script = script;
+                sound = sound;
+                unrefused = unrefused;
+              };
               are = first;
             })
           ])

@@ -148,14 +148,18 @@ pub record IsPublishing (may_fail : Bool) (feed : Feed) (input : List ℕ) (line
   pub result : IsPublishServed may_fail feed catalog (trees_in parts.certificates) parts.commands lines status
       ⊎ IsRefusal catalog (trees_in parts.certificates) lines status
 
--- the sharding is sound, and the first lines of such an answer are written
-pub record HasListenedToPublish (feed : Feed) (input : List ℕ) (lines : List (List ℕ)) : Type 0 where
+-- its sharding is accepted: it is sound, and there is no reason to refuse it
+pub record IsPublishAccepted (input : List ℕ) : Type 0 where
   pub catalog : CatalogOf Expr
   pub parts : LineParts
   pub head : IsPublishHead input catalog parts
   pub sound : IsSound catalog
   pub unrefused : IsFirstRefusal catalog (trees_in parts.certificates) None
-  pub first : HasToldFirst feed catalog parts.commands lines
+
+-- the sharding is accepted, and the first lines of such an answer are written
+pub record HasListenedToPublish (feed : Feed) (input : List ℕ) (lines : List (List ℕ)) : Type 0 where
+  pub accepted : IsPublishAccepted input
+  pub first : HasToldFirst feed accepted.catalog accepted.parts.commands lines
 
 abbrev pub IsBegunPublishing : Feed → List ℕ → List (List ℕ) → Type 0
 IsBegunPublishing feed input lines = (lines ≡ []) ⊎ HasListenedToPublish feed input lines

@@ -68,7 +68,26 @@ CanServe serves (Check shows) = Unit {0}
 CanServe serves Make = Unit {0}
 CanServe serves (Simulate limit) = Unit {0}
 
+-- ---- whether it uses sockets
+
+-- The request is to serve, and the sharding of the input is accepted. No other request uses sockets, and neither does
+-- one whose sharding is refused.
+abbrev pub Accepts : Request → List ℕ → Type 0
+Accepts (Serve service) input = serving.IsAccepted input
+Accepts (Publish feed) input = published.IsPublishAccepted input
+Accepts (Eval table wanted) input = ⊥
+Accepts Show input = ⊥
+Accepts (Check shows) input = ⊥
+Accepts Make input = ⊥
+Accepts (Simulate limit) input = ⊥
+
 -- ---- of a reader
+
+-- the sharding of what the reader gave is accepted
+pub record AcceptsInput (request : Request) (known : Option (List ℕ)) : Type 0 where
+  pub input : List ℕ
+  pub given : IsInput known input
+  pub accepts : Accepts request input
 
 -- what the reader gave is answered
 pub record AnswersInput (may_fail : Bool) (request : Request) (known old new : Option (List ℕ))
@@ -135,3 +154,11 @@ AsksToServe serves words = (serves ≡ false) × AsksSockets words
 -- the arguments are a usage error, or request what the program cannot do
 abbrev pub IsMisworded : Bool → List (List ℕ) → Type 0
 IsMisworded serves words = IsMiswordedFor words ⊎ AsksToServe serves words
+
+-- The arguments request to serve what the reader gives, and its sharding is accepted: only then are sockets used.
+pub record UsesSockets (words : List (List ℕ)) (known : Option (List ℕ)) : Type 0 where
+  pub request : Request
+  pub input : List ℕ
+  pub asks : IsRequest words request
+  pub given : IsInput known input
+  pub accepts : Accepts request input

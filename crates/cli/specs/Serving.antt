@@ -51,8 +51,8 @@ pub record IsServing (service : Service) (input : List ℕ) (lines : List (List 
   pub result : AreServed service catalog (trees_in (lines_of cut.second)) lists lines status ⊎ IsRefusal catalog
       (trees_in (lines_of cut.second)) lines status
 
--- Such an input has a sound sharding, and the line that it listens is written, but not how it ended.
-pub record HasListened (service : Service) (input : List ℕ) (lines : List (List ℕ)) : Type 0 where
+-- the same of a sharding that is accepted: it is sound, and there is no reason to refuse it
+pub record IsAccepted (input : List ℕ) : Type 0 where
   pub cut : CutTwice
   pub catalog : CatalogOf Expr
   pub parts : three_parts input ≡ Some cut
@@ -62,6 +62,10 @@ pub record HasListened (service : Service) (input : List ℕ) (lines : List (Lis
   pub script : OnlyCommits catalog.tables cut.third lists
   pub sound : IsSound catalog
   pub unrefused : IsFirstRefusal catalog (trees_in (lines_of cut.second)) None
+
+-- Such an input has an accepted sharding, and the line that it listens is written, but not how it ended.
+pub record HasListened (service : Service) (input : List ℕ) (lines : List (List ℕ)) : Type 0 where
+  pub accepted : IsAccepted input
   pub are : lines ≡ telling.listening_line service.port ∷ []
 
 abbrev pub IsBegunServing : Service → List ℕ → List (List ℕ) → Type 0

@@ -9,7 +9,7 @@ ghost use Rattle.cli.specs.CommandLine.{CanDo};
 ghost use Rattle.commands.specs.Simulate.Limits.{IsLogLimit};
 ghost use Rattle.cli.specs.Courses.{Concludes, ConcludesFault, CourseSaysFault, Finishes, FinishesFault, IsCourse, IsUnserved};
 ghost use Rattle.cli.specs.Outcomes.{NumberSaysFault};
-ghost use Rattle.cli.specs.Requests.{AnswersReader, AsksSockets, CanServe, EndsRequest};
+ghost use Rattle.cli.specs.Requests.{AcceptsInput, AnswersReader, CanServe, EndsRequest, UsesSockets};
 ghost use Rattle.cli.specs.Runs.{IsProgramRun};
 ghost use Rattle.cli.specs.declared.requests.Request.TheVariants.{Serve};
 
@@ -198,8 +198,10 @@ fn serve_script<
         + Sync,
 >(rt: &R, service: Service, input: I, writer: &mut W) -> Result<Status, Failure<'a>>
     requires { IsLogLimit service.limit }
-    ensures { AnswersReader (Serve service) I.may_fail (I.remaining input) (W.contents writer.old)
+    ensures ends { AnswersReader (Serve service) I.may_fail (I.remaining input) (W.contents writer.old)
         (W.contents writer.new) result }
+    ensures failed { AcceptsInput (Serve service) (I.remaining input) ⊎ EndsByFault (W.has_failed writer.old)
+        (W.has_failed writer.new) result }
 {
     let input = read_input(rt.alloc(), input)?;
     serve_input(rt, rt.alloc(), service, input.as_str(), writer)
@@ -220,8 +222,10 @@ fn serve_reader<
         + Sync,
 >(rt: &R, request: Request<'a>, input: I, writer: &mut W) -> Result<Status, Failure<'a>>
     requires { CanDo request }
-    ensures { AnswersReader request.entry I.may_fail (I.remaining input) (W.contents writer.old)
+    ensures ends { AnswersReader request.entry I.may_fail (I.remaining input) (W.contents writer.old)
         (W.contents writer.new) result }
+    ensures failed { AcceptsInput request.entry (I.remaining input) ⊎ EndsByFault (W.has_failed writer.old)
+        (W.has_failed writer.new) result }
 {
     if let Request::Serve(service) = request {
         return serve_script(rt, service, input, writer);
@@ -235,7 +239,7 @@ fn serve_reader<
 /// Runs the whole program, as `run` does, and serves subscribers over sockets if the arguments request it. For `serve`
 /// and `publish` the status is 0 if all connections have ended and the publisher was closed, 1 if the sharding is
 /// refused or the publisher cannot be closed, and 4 also if a port cannot be used, or the listening socket of `serve`
-/// fails.
+/// fails. Sockets are used only if the sharding was accepted, so otherwise 4 means that the writer failed.
 pub fn run_serving<
     S: AsStr,
     I: Reader + Drop,
@@ -251,7 +255,7 @@ pub fn run_serving<
 >(rt: &R, words: &[S], input: I, writer: &mut W) -> u8
     ensures run { IsProgramRun true (map S.text words.now) I.may_fail (I.remaining input) (W.contents writer.old)
         (W.contents writer.new) result }
-    ensures failed { AsksSockets (map S.text words.now) ⊎ NumberSaysFault (W.has_failed writer.old)
+    ensures failed { UsesSockets (map S.text words.now) (I.remaining input) ⊎ NumberSaysFault (W.has_failed writer.old)
         (W.has_failed writer.new) result }
     ensures flushed { result ≢ 4 → W.is_flushed writer.new ≡ true }
 {

@@ -3,14 +3,15 @@
 //! which send commands. A `Berth` is a place for clients, whose thread serves one client after another. The `Hall` is
 //! what all places share: how many of them wait for a client, whether clients are still let in, and the timeouts.
 
-ghost use Rattle.std.specs.Prelude.{◌≡◌, None, IfErr, OnOk};
+ghost use Rattle.std.specs.Prelude.{◌≡◌, ◌⊎◌, None, IfErr, OnOk};
 ghost use Rattle.std.specs.Arc.{arc_value};
+ghost use Rattle.commands.specs.Output.{EndsByFault};
 ghost use Rattle.commands.specs.Simulate.Limits.{IsLogLimit};
 ghost use Rattle.shard_checker.specs.CheckedView.{checked_view};
 ghost use Rattle.cli.specs.Connections.{StayServed, served_at};
 ghost use Rattle.cli.specs.Incoming.{coming};
 ghost use Rattle.cli.specs.Published.{Serves, callers_at};
-ghost use Rattle.cli.specs.Requests.{AnswersReader};
+ghost use Rattle.cli.specs.Requests.{AcceptsInput, AnswersReader};
 ghost use Rattle.cli.specs.Talks.{HasAnswered, IsCutOff};
 ghost use Rattle.cli.specs.declared.requests.Request.TheVariants.{Publish};
 
@@ -232,7 +233,9 @@ fn publish<
 }
 
 /// Publishes what a reader gives: a catalog, a line `%%`, the texts of the certificates of its tables, one per line, a
-/// line `%%`, and then commands, one step per line, each of which is executed and answered when it has arrived.
+/// line `%%`, and then commands, one step per line, each of which is executed and answered when it has arrived. Sockets
+/// are used only if the sharding is accepted.
+#[tactic(auto, using(crate::proofs::Causes::quiet))]
 pub(crate) fn publish_input<
     'a,
     I: Reader + Drop,
@@ -246,8 +249,10 @@ pub(crate) fn publish_input<
         + Sync,
 >(rt: &R, alloc: Global, feed: Feed<'_>, input: I, writer: &mut W) -> Result<Status, Failure<'a>>
     requires { IsLogLimit feed.limit }
-    ensures { AnswersReader (Publish feed.entry) I.may_fail (I.remaining input) (W.contents writer.old)
+    ensures ends { AnswersReader (Publish feed.entry) I.may_fail (I.remaining input) (W.contents writer.old)
         (W.contents writer.new) result }
+    ensures failed { AcceptsInput (Publish feed.entry) (I.remaining input) ⊎ EndsByFault (W.has_failed writer.old)
+        (W.has_failed writer.new) result }
 {
     let Ok(mut lines) = LineReader::new(alloc, input) else {
         return Err(Failure::OutOfMemory);

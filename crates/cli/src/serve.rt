@@ -1,11 +1,12 @@
 //! `serve`: the subscribers of a sharding are served over sockets.
 
-ghost use Rattle.std.specs.Prelude.{◌≡◌, ◌≤◌, length, map};
+ghost use Rattle.std.specs.Prelude.{◌≡◌, ◌≤◌, ◌⊎◌, length, map};
 ghost use Rattle.std.specs.Arc.{arc_value};
 ghost use Rattle.shard_checker.specs.CheckedView.{checked_view};
+ghost use Rattle.commands.specs.Output.{EndsByFault};
 ghost use Rattle.commands.specs.Simulate.Limits.{IsLogLimit};
 ghost use Rattle.cli.specs.Scripts.{list_view};
-ghost use Rattle.cli.specs.Serving.{EndsService};
+ghost use Rattle.cli.specs.Serving.{EndsService, IsAccepted};
 ghost use Rattle.cli.specs.Telling.{WritesServeLines, service_of};
 
 use crate::closing::{close_and_tell, served_in};
@@ -70,7 +71,8 @@ fn publish<
 
 /// Serves an input: a catalog, the texts of the certificates of its tables, one per line, and a script, with lines `%%`
 /// between them. The faults of the input are those of `simulate`, in its order. A step that is not COMMIT is a fault of
-/// the script.
+/// the script. Sockets are used only if the sharding is accepted.
+#[tactic(auto, using(crate::proofs::Causes::quiet))]
 pub fn serve_input<
     'a,
     W: Writer,
@@ -83,7 +85,8 @@ pub fn serve_input<
     writer: &mut W,
 ) -> Result<Status, Failure<'a>>
     requires { IsLogLimit service.limit }
-    ensures { EndsService service input.now (W.contents writer.old) (W.contents writer.new) result }
+    ensures ends { EndsService service input.now (W.contents writer.old) (W.contents writer.new) result }
+    ensures failed { IsAccepted input.now ⊎ EndsByFault (W.has_failed writer.old) (W.has_failed writer.new) result }
 {
     let (text, certificates, script) = three_parts(input).ok_or(InputFault::Parts)?;
     let catalog = read_catalog(alloc, text)?;

@@ -1,4 +1,4 @@
-use Rattle.std.proofs.Common.{◌≡◌, ◌∙◌, ℕ, List, Option, Some, None, OnOk, IfErr, ap, subst, sym}
+use Rattle.std.proofs.Common.{inl, inr, ◌≡◌, ◌∙◌, ℕ, List, Option, Some, None, OnOk, IfErr, ap, subst, sym}
 use Rattle.std.specs.Prelude.{Ok}
 use Rattle.std.specs.Io.KnownBytes.{Appends}
 use Rattle.std.specs.String.{string_bytes}
@@ -15,14 +15,14 @@ use Rattle.commands.specs.Output.{StopsText, ended}
 use Rattle.commands.specs.Parts.{lines_of}
 use Rattle.commands.specs.Refusals.{refused_line}
 use Rattle.commands.specs.Verdicts.{IsFirstRefusal}
-use Rattle.cli.proofs.Heads.{catalog_returned, certificate_returned, first_returned, second_returned, served, sharding_refused}
+use Rattle.cli.proofs.Heads.{accepted, catalog_returned, certificate_returned, first_returned, second_returned, served, sharding_refused}
 use Rattle.cli.specs.Incoming.{coming}
 use Rattle.cli.specs.Lines.{ReadsPart, StopsPart}
 use Rattle.cli.specs.Published.{Serves}
 use Rattle.cli.proofs.publish.publish_input.Goals as goal
 
-pub returns-in_err-text : goal.returns-in_err-text
-returns-in_err-text g c =
+pub returns-in_err-text-clause-ends : goal.returns-in_err-text-clause-ends
+returns-in_err-text-clause-ends g c =
     let read = g.I.Read.remaining in
     let known = read c.args.input in
     let old = g.W.Writer.contents c.args.writer.now in
@@ -32,8 +32,8 @@ returns-in_err-text g c =
     (subst (λ (k : Option (List ℕ)). StopsPart g.I.Reader.may_fail k mid c.in_err-text.field-0.0) same c.in_err-text.ensures.err)
     c.from_residual.ensures.1
 
-pub returns-in_err-certificates : goal.returns-in_err-certificates
-returns-in_err-certificates g c =
+pub returns-in_err-certificates-clause-ends : goal.returns-in_err-certificates-clause-ends
+returns-in_err-certificates-clause-ends g c =
     let read = g.I.Read.remaining in
     let known = read c.args.input in
     let old = g.W.Writer.contents c.args.writer.now in
@@ -46,8 +46,8 @@ returns-in_err-certificates g c =
     c.from_residual-in_err-certificates.result first c.in_err-certificates.ensures.err
     c.from_residual-in_err-certificates.ensures.1
 
-pub returns-in_err-catalog : goal.returns-in_err-catalog
-returns-in_err-catalog g c =
+pub returns-in_err-catalog-clause-ends : goal.returns-in_err-catalog-clause-ends
+returns-in_err-catalog-clause-ends g c =
     let read = g.I.Read.remaining in
     let known = read c.args.input in
     let old = g.W.Writer.contents c.args.writer.now in
@@ -62,8 +62,8 @@ returns-in_err-catalog g c =
     (rw c.as_str.ensures.value at c.in_err-catalog.ensures.catalog) c.from_residual-in_err-catalog.result
     c.from_residual-in_err-catalog.ensures.1
 
-pub returns-in_err-checked : goal.returns-in_err-checked
-returns-in_err-checked g c =
+pub returns-in_err-checked-clause-ends : goal.returns-in_err-checked-clause-ends
+returns-in_err-checked-clause-ends g c =
     let read = g.I.Read.remaining in
     let known = read c.args.input in
     let old = g.W.Writer.contents c.args.writer.now in
@@ -82,8 +82,8 @@ returns-in_err-checked g c =
     c.in_ok-certificates.ensures.ok catalog reads c.in_err-checked.field-0.0 c.from_residual-in_err-checked.result
     (rw lines at c.in_err-checked.ensures.err) c.from_residual-in_err-checked.ensures.1
 
-pub returns-in-Ok-2 : goal.returns-in-Ok-2
-returns-in-Ok-2 g c =
+pub returns-in-Ok-2-clause-ends : goal.returns-in-Ok-2-clause-ends
+returns-in-Ok-2-clause-ends g c =
     let read = g.I.Read.remaining in
     let known = read c.args.input in
     let old = g.W.Writer.contents c.args.writer.now in
@@ -111,8 +111,32 @@ returns-in-Ok-2 g c =
     (subst (λ (checked : CheckedOf). Serves c.args.feed checked left later g.I.Reader.may_fail old (g.W.Writer.contents c.publish.new.writer)
     c.publish.result) (ap checked_view c.in_ok-shared-in-Ok-2.ensures.ok ∙ kept) c.publish.ensures)
 
-pub returns : goal.returns
-returns g c =
+pub returns-in-Ok-2-clause-failed : goal.returns-in-Ok-2-clause-failed
+returns-in-Ok-2-clause-failed g c =
+    let read = g.I.Read.remaining in
+    let known = read c.args.input in
+    let old = g.W.Writer.contents c.args.writer.now in
+    let same = c.in-Ok.ensures in
+    let mid = coming read c.read_part.new.lines in
+    let left = coming read c.read_part-2.new.lines in
+    let first : ReadsPart known mid (string_bytes c.in_ok-text.text) =
+    subst (λ (k : Option (List ℕ)). ReadsPart k mid (string_bytes c.in_ok-text.text)) same c.in_ok-text.ensures.ok in
+    let certificates = string_bytes c.in_ok-certificates.certificates in
+    let catalog = catalog_view c.in_ok-catalog.catalog in
+    let reads : catalog_by as_filter (string_bytes c.in_ok-text.text) ≡ Ok catalog =
+    rw c.as_str.ensures.value at c.in_ok-catalog.ensures.catalog in
+    let lines : texts_view c.as_slice.result.now ≡ lines_of certificates =
+    ap texts_view c.as_slice.ensures.value ∙ c.in_ok-texts.ensures ∙ ap lines_of c.as_str-2.ensures.value in
+    let faultless : text_fault 1 (lines_of certificates) ≡ None =
+    ap (text_fault 1) (sym lines) ∙ c.in_ok-checked.ensures.read in
+    let sound = rw c.in-Ok-2.is at c.in_ok-checked.ensures.sound in
+    let unrefused = rw c.in-Ok-2.is at c.in_ok-checked.ensures.unrefused in
+    inl (accepted g.I.Reader.may_fail c.args.feed known old mid left (string_bytes c.in_ok-text.text) certificates first
+    c.in_ok-certificates.ensures.ok catalog reads faultless sound
+    (subst (λ (l : List (List ℕ)). IsFirstRefusal catalog (trees_in l) None) lines unrefused))
+
+pub returns-clause-ends : goal.returns-clause-ends
+returns-clause-ends g c =
     let read = g.I.Read.remaining in
     let known = read c.args.input in
     let old = g.W.Writer.contents c.args.writer.now in
@@ -147,3 +171,6 @@ returns g c =
     c.write_refused.ensures.written)
     (subst (λ (named : CatalogOf Expr). IfErr result (StopsText (ended (refused_line named refusal)) old new)) again
     c.write_refused.ensures.stopped)
+
+pub returns-clause-failed : goal.returns-clause-failed
+returns-clause-failed g c = inr c.write_refused.ensures.failed

@@ -1,4 +1,4 @@
-use Rattle.std.proofs.Common.{rules, ℕ, ◌≡◌, ◌∙◌, List, map, Some, None, OnOk, IfErr, sym, ap, subst}
+use Rattle.std.proofs.Common.{rules, inl, inr, ℕ, ◌≡◌, ◌∙◌, List, map, Some, None, OnOk, IfErr, sym, ap, subst}
 use Rattle.std.specs.Arc.{arc_value}
 use Rattle.std.specs.Io.KnownBytes.{Appends}
 use Rattle.filter_tree.specs.Expr.{Expr}
@@ -17,8 +17,8 @@ use Rattle.cli.specs.Scripts.{list_view}
 use Rattle.cli.specs.Telling.{WritesServeLines, service_of}
 use Rattle.cli.proofs.serve.serve_input.Goals as goal
 
-pub returns-in-Ok : goal.returns-in-Ok
-returns-in-Ok g c =
+pub returns-in-Ok-clause-ends : goal.returns-in-Ok-clause-ends
+returns-in-Ok-clause-ends g c =
     let old = g.W.Writer.contents c.args.writer.now in
     let new = g.W.Writer.contents c.publish.new.writer in
     let cut : CutTwice = record
@@ -39,8 +39,29 @@ returns-in-Ok g c =
     WritesServeLines (service_of c.args.service checked lists) old new c.publish.result) kept
     c.publish.ensures)
 
-pub returns : goal.returns
-returns g c =
+pub returns-in-Ok-clause-failed : goal.returns-in-Ok-clause-failed
+returns-in-Ok-clause-failed g c =
+    let cut : CutTwice = record
+    { first = c.in_ok-text.text.now; second = c.in_ok-text.certificates.now; third = c.in_ok-text.script.now } in
+    let parts : three_parts c.args.input.now ≡ Some cut = search rules in
+    let catalog = catalog_view c.in_ok-catalog.catalog in
+    let same : texts_view c.as_slice.result.now ≡ lines_of cut.second = ap texts_view c.as_slice.ensures.value
+    ∙ c.in_ok-texts.ensures in
+    let unrefused = rw c.in-Ok.is at c.in_ok-verdict.ensures.unrefused in
+    inl (record {
+      cut = cut;
+      catalog = catalog;
+      parts = parts;
+      reads = c.in_ok-catalog.ensures.catalog;
+      certificates = ap (text_fault 1) (sym same) ∙ c.in_ok-verdict.ensures.read;
+      lists = map list_view c.in_ok-lists.lists.items;
+      script = c.in_ok-lists.ensures.ok;
+      sound = rw c.in-Ok.is at c.in_ok-verdict.ensures.sound;
+      unrefused = subst (λ (lines : List (List ℕ)). IsFirstRefusal catalog (trees_in lines) None) same unrefused;
+    })
+
+pub returns-clause-ends : goal.returns-clause-ends
+returns-clause-ends g c =
     let old = g.W.Writer.contents c.args.writer.now in
     let new = g.W.Writer.contents c.write_refused.new.writer in
     let result = c.write_refused.result in
@@ -66,8 +87,11 @@ returns g c =
     (subst (λ (named : CatalogOf Expr). IfErr result (StopsText (ended (refused_line named refusal)) old new)) again
     c.write_refused.ensures.stopped)
 
-pub returns-in_err-lists : goal.returns-in_err-lists
-returns-in_err-lists g c =
+pub returns-clause-failed : goal.returns-clause-failed
+returns-clause-failed g c = inr c.write_refused.ensures.failed
+
+pub returns-in_err-lists-clause-ends : goal.returns-in_err-lists-clause-ends
+returns-in_err-lists-clause-ends g c =
     let cut : CutTwice = record
     { first = c.in_ok-text.text.now; second = c.in_ok-text.certificates.now; third = c.in_ok-text.script.now } in
     let parts : three_parts c.args.input.now ≡ Some cut = search rules in
@@ -79,8 +103,8 @@ returns-in_err-lists g c =
     (g.W.Writer.contents c.args.writer.now) c.in_err-lists.field-0.0 c.from_residual-in_err-lists.result
     c.in_err-lists.ensures.err c.from_residual-in_err-lists.ensures.1
 
-pub returns-in_err-catalog-in-Err : goal.returns-in_err-catalog-in-Err
-returns-in_err-catalog-in-Err g c =
+pub returns-in_err-catalog-in-Err-clause-ends : goal.returns-in_err-catalog-in-Err-clause-ends
+returns-in_err-catalog-in-Err-clause-ends g c =
     let cut : CutTwice = record
     { first = c.in_ok-text.text.now; second = c.in_ok-text.certificates.now; third = c.in_ok-text.script.now } in
     let parts : three_parts c.args.input.now ≡ Some cut = search rules in
