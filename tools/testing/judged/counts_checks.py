@@ -80,7 +80,7 @@ def check_counts(tally: Tally, server: Server) -> None:
         tally.check("what a role may not count", part if part in lines else lines, part)
     for given in "0", "-1", "x":
         tally.check(f"--rows {given}", judge(*words, "--rows", given), (
-            f"judge: argument --rows: invalid number_of_rows value: '{given}'; --help lists the options\nstatus 2\n"))
+            f"judge: argument --rows: it takes 1 to 10,000, not {given}; --help lists the options\nstatus 2\n"))
     check_lock(tally, server)
 
 
