@@ -42,16 +42,16 @@ fails {A = A} rule n front bytes fault read =
     ap (λ (outcome : Outcome A). with_front front
     (and_then outcome (λ x. mapped (λ others. x ∷ others) (many rule n)))) read
 
-told_on : {A : Type 0} (rule : Rule A) (n : ℕ) (front : List A) (bytes : List ℕ) (error : MsgError)
+tells_on : {A : Type 0} (rule : Rule A) (n : ℕ) (front : List A) (bytes : List ℕ) (error : MsgError)
     → TellsFault (msg_fault error) (rule bytes)
     → TellsFault (msg_fault error) (with_front front (many rule (suc n) bytes))
-told_on rule n front bytes (Unknown found) h = fails rule n front bytes (Unknown found) h
-told_on rule n front bytes Toast h = fails rule n front bytes Toast h
-told_on rule n front bytes BadCount h = fails rule n front bytes BadCount h
-told_on rule n front bytes Short h = fails rule n front bytes Short h
-told_on rule n front bytes BadText h = fails rule n front bytes BadText h
-told_on rule n front bytes Trailing h = fails rule n front bytes Trailing h
-told_on rule n front bytes OutOfMemory h = tt
+tells_on rule n front bytes (Unknown found) h = fails rule n front bytes (Unknown found) h
+tells_on rule n front bytes Toast h = fails rule n front bytes Toast h
+tells_on rule n front bytes BadCount h = fails rule n front bytes BadCount h
+tells_on rule n front bytes Short h = fails rule n front bytes Short h
+tells_on rule n front bytes BadText h = fails rule n front bytes BadText h
+tells_on rule n front bytes Trailing h = fails rule n front bytes Trailing h
+tells_on rule n front bytes OutOfMemory h = tt
 
 pub ends : {A : Type 0} (rule : Rule A) (front : List A) (count i : ℕ) (bytes : List ℕ) (error : MsgError)
     (total : Outcome (List A)) → i < count → TellsFault (msg_fault error) (rule bytes)
@@ -60,7 +60,7 @@ ends {A = A} rule front count i bytes error total within failed so_far =
     let more : count - i ≡ suc (count - (i + 1)) = omega arith in
     let same : with_front front (many rule (suc (count - (i + 1))) bytes) ≡ total =
     ap (λ n. with_front front (many rule n bytes)) (sym more) ∙ so_far in
-    rw same at (told_on rule (count - (i + 1)) front bytes error failed)
+    rw same at (tells_on rule (count - (i + 1)) front bytes error failed)
 
 pub is_done : {A : Type 0} (rule : Rule A) (front : List A) (count i : ℕ) (bytes : List ℕ) (total : Outcome (List A))
     → count ≤ i → with_front front (many rule (count - i) bytes) ≡ total → total ≡ Ok (front, bytes)

@@ -109,8 +109,8 @@ module _ (P : Msg → Type 0) where
   one_relation number None h = All-nil P
   one_relation number (Some table) h = all_one P (m.Relation (relation_of number table)) h
 
-  once : (tables : List Table) → Everywhere P tables → (is_told : Bool) (number : ℕ)
-      → All P (introduced tables is_told number)
+  once : (tables : List Table) → Everywhere P tables → (is_announced : Bool) (number : ℕ)
+      → All P (introduced tables is_announced number)
   once tables holds true number = All-nil P
   once tables holds false number = one_relation number (slice_get tables number) (holds.relations number)
 

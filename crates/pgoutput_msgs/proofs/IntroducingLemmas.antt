@@ -12,13 +12,13 @@ use Rattle.table_changes.specs.Outs as o
 use Rattle.table_changes.specs.Outs.{got}
 use Rattle.table_changes.specs.Records as r
 use Rattle.tables_log.specs.Commits.{CommitOf}
-use Rattle.pgoutput_msgs.specs.Introducing.{IsIntroduced, known_after, AreIntroduced, AreTold, IsChangeOf, IsOf, messages_in_turn, relation_sent_in_turn, Introduces, CommitsIntroduce, CommitsInTurnIntroduce}
+use Rattle.pgoutput_msgs.specs.Introducing.{IsIntroduced, known_after, AreIntroduced, KnownAreAnnounced, IsChangeOf, IsOf, messages_in_turn, relation_sent_in_turn, Introduces, CommitsIntroduce, CommitsInTurnIntroduce}
 use Rattle.pgoutput_msgs.specs.Telling.{oid_of, a_relation, introduced, relation_once, relation_of, relations_of, mark_one, mark_all, named_in, message_of, said, mark_by, said_each, mark_each, begin_msg, commit_msg, enclosed, messages_for, relation_sent_after}
 use Rattle.pgoutput_msgs.specs.declared.message.Msg.{Msg}
 use Rattle.pgoutput_msgs.specs.declared.message.Msg.TheVariants as m
 
-abbrev is_told : List Bool → ℕ → Bool
-is_told sent number = slice_index_or sent number false
+abbrev is_announced : List Bool → ℕ → Bool
+is_announced sent number = slice_index_or sent number false
 
 -- ---- messages one after the other
 
@@ -35,7 +35,7 @@ both : (sent between after : List Bool) (one other : List Msg) → Introduces se
 both sent between after one other h k = record {
   introduced = λ known is. introduced_both known one other (h.introduced known is)
       (k.introduced (fold known_after known one) (h.known known is));
-  known = λ known is. subst (AreTold after) (sym (fold-append known_after known one other))
+  known = λ known is. subst (KnownAreAnnounced after) (sym (fold-append known_after known one other))
       (k.known (fold known_after known one) (h.known known is));
 }
 
@@ -52,8 +52,8 @@ first_or_later : (oid other : ℕ) (known : List ℕ) (P : Type 0) → (oid ≡ 
 first_or_later oid other known P first later (zero, within, is) = first is
 first_or_later oid other known P first later (suc k, within, is) = later (k, omega (arith, within), is)
 
-told_itself : (sent : List Bool) (number : ℕ) → number < length sent → is_told (mark_one sent number) number ≡ true
-told_itself sent number within = get_or-set_same sent number true false within
+announced_itself : (sent : List Bool) (number : ℕ) → number < length sent → is_announced (mark_one sent number) number ≡ true
+announced_itself sent number within = get_or-set_same sent number true false within
 
 is_same : (n number : ℕ) (P : Type 0) → (n ≡ number → P) → (n ≢ number → P) → P
 is_same zero zero P same other = same refl
@@ -62,35 +62,35 @@ is_same (suc n) zero P same other = other (λ e. omega (arith, e))
 is_same (suc n) (suc number) P same other =
     is_same n number P (λ e. same (ap suc e)) (λ differs. other (λ e. differs (omega (arith, e))))
 
-still_told : (sent : List Bool) (number n : ℕ) → number < length sent → is_told sent n ≡ true
-    → is_told (mark_one sent number) n ≡ true
-still_told sent number n within h =
-    is_same n number (is_told (mark_one sent number) n ≡ true)
-    (λ e. subst (λ k. is_told (mark_one sent number) k ≡ true) (sym e) (told_itself sent number within))
+still_announced : (sent : List Bool) (number n : ℕ) → number < length sent → is_announced sent n ≡ true
+    → is_announced (mark_one sent number) n ≡ true
+still_announced sent number n within h =
+    is_same n number (is_announced (mark_one sent number) n ≡ true)
+    (λ e. subst (λ k. is_announced (mark_one sent number) k ≡ true) (sym e) (announced_itself sent number within))
     (λ differs. get_or-set_other sent number n true false differs ∙ h)
 
-told_before : (sent : List Bool) (number n : ℕ) → n ≢ number → is_told (mark_one sent number) n ≡ true
-    → is_told sent n ≡ true
-told_before sent number n differs h = sym (get_or-set_other sent number n true false differs) ∙ h
+announced_before : (sent : List Bool) (number n : ℕ) → n ≢ number → is_announced (mark_one sent number) n ≡ true
+    → is_announced sent n ≡ true
+announced_before sent number n differs h = sym (get_or-set_other sent number n true false differs) ∙ h
 
 -- the Relation of a table that exists and was not announced
-new_relation : (sent : List Bool) (number : ℕ) (table : Table) → number < length sent → is_told sent number ≡ false
+new_relation : (sent : List Bool) (number : ℕ) (table : Table) → number < length sent → is_announced sent number ≡ false
     → Introduces sent (mark_one sent number) (m.Relation (relation_of number table) ∷ [])
 new_relation sent number table within is_new = record {
   introduced = λ known is. (λ found. absurd (let known_too = is.only number found in cc), tt);
   known = λ known is. record {
     each = λ n h. is_same n number (Contains (oid_of number ∷ known) (oid_of n))
         (λ e. subst (λ k. Contains (oid_of number ∷ known) (oid_of k)) (sym e) (first_known (oid_of number) known))
-        (λ differs. still_known (oid_of number) (oid_of n) known (is.each n (told_before sent number n differs h)));
-    only = λ n. first_or_later (oid_of number) (oid_of n) known (is_told (mark_one sent number) n ≡ true)
+        (λ differs. still_known (oid_of number) (oid_of n) known (is.each n (announced_before sent number n differs h)));
+    only = λ n. first_or_later (oid_of number) (oid_of n) known (is_announced (mark_one sent number) n ≡ true)
         (λ e. let same : number ≡ n = omega (arith, e) in
-        subst (λ k. is_told (mark_one sent number) k ≡ true) same (told_itself sent number within))
-        (λ found. still_told sent number n within (is.only n found));
+        subst (λ k. is_announced (mark_one sent number) k ≡ true) same (announced_itself sent number within))
+        (λ found. still_announced sent number n within (is.only n found));
   };
 }
 
 one_by : (tables : List Table) (sent : List Bool) (number : ℕ) (found : Option Table)
-    → slice_get tables number ≡ found → number < length tables → number < length sent → is_told sent number ≡ false
+    → slice_get tables number ≡ found → number < length tables → number < length sent → is_announced sent number ≡ false
     → Introduces sent (mark_one sent number) (a_relation number found)
 one_by tables sent number None e there within is_new = absurd (missing tables number there e)
   where
@@ -100,7 +100,7 @@ one_by tables sent number None e there within is_new = absurd (missing tables nu
     missing (x ∷ xs) (suc i) low none = missing xs i (omega (arith, low)) none
 one_by tables sent number (Some table) e there within is_new = new_relation sent number table within is_new
 
-once_by : (tables : List Table) (sent : List Bool) (number : ℕ) (b : Bool) → is_told sent number ≡ b
+once_by : (tables : List Table) (sent : List Bool) (number : ℕ) (b : Bool) → is_announced sent number ≡ b
     → number < length tables → number < length sent
     → Introduces sent (mark_one sent number) (introduced tables b number)
 once_by tables sent number true e there within =
@@ -122,7 +122,7 @@ all_relations tables sent (number ∷ numbers) long of =
     let longer : length tables ≤ length (mark_one sent number) = omega (arith, long, length-set sent number true) in
     both sent (mark_one sent number) (mark_all (mark_one sent number) numbers) (relation_once tables sent number)
     (relations_of tables (mark_one sent number) numbers)
-    (once_by tables sent number (is_told sent number) refl there (omega (arith, there, long)))
+    (once_by tables sent number (is_announced sent number) refl there (omega (arith, there, long)))
     (all_relations tables (mark_one sent number) numbers longer
     (All-tail (λ table. table < length tables) number numbers of))
 
@@ -133,51 +133,51 @@ length-mark_all sent (number ∷ numbers) = length-mark_all (mark_one sent numbe
 
 -- ---- changes
 
-stays_told : (sent : List Bool) (numbers : List ℕ) (most : ℕ) → most ≤ length sent
-    → All (λ table. table < most) numbers → (n : ℕ) → is_told sent n ≡ true → is_told (mark_all sent numbers) n ≡ true
+stays_announced : (sent : List Bool) (numbers : List ℕ) (most : ℕ) → most ≤ length sent
+    → All (λ table. table < most) numbers → (n : ℕ) → is_announced sent n ≡ true → is_announced (mark_all sent numbers) n ≡ true
 unfolding mark_all
-stays_told sent [] most long of n h = h
-stays_told sent (number ∷ numbers) most long of n h =
+stays_announced sent [] most long of n h = h
+stays_announced sent (number ∷ numbers) most long of n h =
     let there = All-head (λ table. table < most) number numbers of in
-    stays_told (mark_one sent number) numbers most (omega (arith, long, length-set sent number true))
+    stays_announced (mark_one sent number) numbers most (omega (arith, long, length-set sent number true))
     (All-tail (λ table. table < most) number numbers of) n
-    (still_told sent number n (omega (arith, there, long)) h)
+    (still_announced sent number n (omega (arith, there, long)) h)
 
-each_told : (sent : List Bool) (numbers : List ℕ) (most : ℕ) → most ≤ length sent
-    → All (λ table. table < most) numbers → All (λ n. is_told (mark_all sent numbers) n ≡ true) numbers
+each_announced : (sent : List Bool) (numbers : List ℕ) (most : ℕ) → most ≤ length sent
+    → All (λ table. table < most) numbers → All (λ n. is_announced (mark_all sent numbers) n ≡ true) numbers
 unfolding mark_all
-each_told sent [] most long of = All-nil (λ n. is_told sent n ≡ true)
-each_told sent (number ∷ numbers) most long of =
+each_announced sent [] most long of = All-nil (λ n. is_announced sent n ≡ true)
+each_announced sent (number ∷ numbers) most long of =
     let there = All-head (λ table. table < most) number numbers of in
     let later = All-tail (λ table. table < most) number numbers of in
     let longer : most ≤ length (mark_one sent number) = omega (arith, long, length-set sent number true) in
-    All-cons (λ n. is_told (mark_all (mark_one sent number) numbers) n ≡ true) number numbers
-    (stays_told (mark_one sent number) numbers most longer later number
-    (told_itself sent number (omega (arith, there, long))))
-    (each_told (mark_one sent number) numbers most longer later)
+    All-cons (λ n. is_announced (mark_all (mark_one sent number) numbers) n ≡ true) number numbers
+    (stays_announced (mark_one sent number) numbers most longer later number
+    (announced_itself sent number (omega (arith, there, long))))
+    (each_announced (mark_one sent number) numbers most longer later)
 
-all_known : (sent : List Bool) (known : List ℕ) → AreTold sent known → (numbers : List ℕ)
-    → All (λ n. is_told sent n ≡ true) numbers → All (Contains known) (map oid_of numbers)
+all_known : (sent : List Bool) (known : List ℕ) → KnownAreAnnounced sent known → (numbers : List ℕ)
+    → All (λ n. is_announced sent n ≡ true) numbers → All (Contains known) (map oid_of numbers)
 all_known sent known is [] all = All-nil (Contains known)
 all_known sent known is (number ∷ numbers) all =
     All-cons (Contains known) (oid_of number) (map oid_of numbers)
-    (is.each number (All-head (λ n. is_told sent n ≡ true) number numbers all))
-    (all_known sent known is numbers (All-tail (λ n. is_told sent n ≡ true) number numbers all))
+    (is.each number (All-head (λ n. is_announced sent n ≡ true) number numbers all))
+    (all_known sent known is numbers (All-tail (λ n. is_announced sent n ≡ true) number numbers all))
 
 one_message : (sent : List Bool) (message : Msg)
-    → ((known : List ℕ) → AreTold sent known → IsIntroduced known message)
+    → ((known : List ℕ) → KnownAreAnnounced sent known → IsIntroduced known message)
     → ((known : List ℕ) → known_after known message ≡ known)
     → Introduces sent sent (message ∷ [])
 one_message sent message h same = record {
   introduced = λ known is. (h known is, tt);
-  known = λ known is. subst (AreTold sent) (sym (same known)) is;
+  known = λ known is. subst (KnownAreAnnounced sent) (sym (same known)) is;
 }
 
-of_table : (sent : List Bool) (table : ℕ) → All (λ n. is_told sent n ≡ true) (table ∷ []) → (known : List ℕ)
-    → AreTold sent known → Contains known (oid_of table)
-of_table sent table all known is = is.each table (All-head (λ n. is_told sent n ≡ true) table [] all)
+of_table : (sent : List Bool) (table : ℕ) → All (λ n. is_announced sent n ≡ true) (table ∷ []) → (known : List ℕ)
+    → KnownAreAnnounced sent known → Contains known (oid_of table)
+of_table sent table all known is = is.each table (All-head (λ n. is_announced sent n ≡ true) table [] all)
 
-change_message : (sent : List Bool) (change : r.ChangeOf) → All (λ n. is_told sent n ≡ true) (named_in change)
+change_message : (sent : List Bool) (change : r.ChangeOf) → All (λ n. is_announced sent n ≡ true) (named_in change)
     → Introduces sent sent (message_of change)
 change_message sent (r.Insert table new) all = one_message sent _ (of_table sent table all) (λ known. refl)
 change_message sent (r.Update table part new) all = one_message sent _ (of_table sent table all) (λ known. refl)
@@ -263,7 +263,7 @@ one_said tables sent (Some change) long h =
     both sent (mark_all sent (named_in change)) (mark_all sent (named_in change))
     (relations_of tables sent (named_in change)) (message_of change)
     (all_relations tables sent (named_in change) long h)
-    (change_message (mark_all sent (named_in change)) change (each_told sent (named_in change) (length tables) long h))
+    (change_message (mark_all sent (named_in change)) change (each_announced sent (named_in change) (length tables) long h))
 
 length-mark_by : (sent : List Bool) (change : Option r.ChangeOf) → length (mark_by sent change) ≡ length sent
 unfolding mark_by

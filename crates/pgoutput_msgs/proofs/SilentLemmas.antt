@@ -39,18 +39,18 @@ none_said checked subscriber sent (change ∷ changes) none =
     (none_said checked subscriber sent changes (other_false (is_for checked.plan subscriber change)
     (concerns checked.plan changes subscriber) none))
 
-none_told : (checked : CheckedOf) (subscriber : ℕ) (sent : List Bool) (changes : List ChangeOf)
+none_marked : (checked : CheckedOf) (subscriber : ℕ) (sent : List Bool) (changes : List ChangeOf)
     → concerns checked.plan changes subscriber ≡ false → mark_each checked subscriber sent changes ≡ sent
 unfolding mark_each mark_by
-none_told checked subscriber sent [] none = refl
-none_told checked subscriber sent (change ∷ changes) none =
+none_marked checked subscriber sent [] none = refl
+none_marked checked subscriber sent (change ∷ changes) none =
     rw (gets_none checked subscriber change (first_false (is_for checked.plan subscriber change)
     (concerns checked.plan changes subscriber) none))
-    (none_told checked subscriber sent changes (other_false (is_for checked.plan subscriber change)
+    (none_marked checked subscriber sent changes (other_false (is_for checked.plan subscriber change)
     (concerns checked.plan changes subscriber) none))
 
 pub quiet_are_silent : QuietAreSilent
 quiet_are_silent checked subscriber sent commit none = record {
   messages = ap (enclosed commit) (none_said checked subscriber sent commit.changes none);
-  after = none_told checked subscriber sent commit.changes none;
+  after = none_marked checked subscriber sent commit.changes none;
 }

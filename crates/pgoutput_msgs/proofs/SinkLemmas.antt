@@ -9,7 +9,7 @@ use Rattle.table_changes.specs.Outs.{got}
 use Rattle.table_changes.specs.Records as r
 use Rattle.pgoutput_msgs.specs.Sinks.{TakesEach}
 use Rattle.pgoutput_msgs.specs.Telling.{introduced, a_relation, relation_once, relations_of, mark_one, mark_all, message_of, named_in, said, mark_by, said_each, mark_each}
-use Rattle.pgoutput_msgs.proofs.TellingLemmas.{Introduces, introduces_on, all_introduced, all_marked, Says, says_on, all_said, all_told}
+use Rattle.pgoutput_msgs.proofs.TellingLemmas.{Introduces, introduces_on, all_introduced, all_marked, Says, says_on, all_said, each_marked}
 use Rattle.pgoutput_msgs.specs.declared.message.Msg.{Msg}
 
 module _ {S : Type 0} (takes_one : S → S → Msg → Type 0) where
@@ -40,29 +40,29 @@ pub record Taken {S : Type 0} (takes_one : S → S → Msg → Type 0) (old now 
 
 abbrev pub Introduced : {S : Type 0} → (S → S → Msg → Type 0) → List Table → List Bool → List Bool → S → S → List ℕ
     → List ℕ → Type 0
-Introduced takes_one tables sent told_now old now all left =
-    Taken takes_one old now (λ (messages : List Msg). Introduces tables sent told_now [] messages all left)
+Introduced takes_one tables sent sent_now old now all left =
+    Taken takes_one old now (λ (messages : List Msg). Introduces tables sent sent_now [] messages all left)
 
 abbrev pub Said : {S : Type 0} → (S → S → Msg → Type 0) → CheckedOf → ℕ → List Bool → List Bool → S → S → List Change
     → List Change → Type 0
-Said takes_one checked subscriber sent told_now old now all left =
-    Taken takes_one old now (λ (messages : List Msg). Says checked subscriber sent told_now [] messages all left)
+Said takes_one checked subscriber sent sent_now old now all left =
+    Taken takes_one old now (λ (messages : List Msg). Says checked subscriber sent sent_now [] messages all left)
 
 module _ {S : Type 0} (takes_one : S → S → Msg → Type 0) where
   -- ---- the Relation of a table
 
-  pub was_told : (sink : S) (tables : List Table) (sent : List Bool) (number : ℕ)
+  pub was_announced : (sink : S) (tables : List Table) (sent : List Bool) (number : ℕ)
       → true ≡ slice_index_or sent number false → TakesEach takes_one sink sink (relation_once tables sent number)
   unfolding relation_once
-  was_told sink tables sent number is =
+  was_announced sink tables sent number is =
       subst (λ (b : Bool). TakesEach takes_one sink sink (introduced tables b number)) is refl
 
-  pub was_not_told : (old new : S) (tables : List Table) (sent : List Bool) (number : ℕ)
+  pub was_not_announced : (old new : S) (tables : List Table) (sent : List Bool) (number : ℕ)
       → false ≡ slice_index_or sent number false
       → TakesEach takes_one old new (a_relation number (slice_get tables number))
       → TakesEach takes_one old new (relation_once tables sent number)
   unfolding relation_once
-  was_not_told old new tables sent number is took =
+  was_not_announced old new tables sent number is took =
       subst (λ (b : Bool). TakesEach takes_one old new (introduced tables b number)) is took
 
   -- ---- Relations
@@ -72,33 +72,33 @@ module _ {S : Type 0} (takes_one : S → S → Msg → Type 0) where
   none_introduced sink tables sent all =
       record { messages = []; taken = refl; so_far = record { text = refl; flags = refl } }
 
-  pub more_introduced : (old now new : S) (tables : List Table) (sent told_now later : List Bool) (all : List ℕ)
+  pub more_introduced : (old now new : S) (tables : List Table) (sent sent_now later : List Bool) (all : List ℕ)
       (i n : ℕ) → n ≡ get_or all i 0 → i < length all
-      → TakesEach takes_one now new (relation_once tables told_now n) → later ≡ mark_one told_now n
-      → Introduced takes_one tables sent told_now old now all (drop i all)
+      → TakesEach takes_one now new (relation_once tables sent_now n) → later ≡ mark_one sent_now n
+      → Introduced takes_one tables sent sent_now old now all (drop i all)
       → Introduced takes_one tables sent later old new all (drop (i + 1) all)
-  more_introduced old now new tables sent told_now later all i n is within took marked before =
+  more_introduced old now new tables sent sent_now later all i n is within took marked before =
       let first = before.messages in
-      let second = relation_once tables told_now n in
+      let second = relation_once tables sent_now n in
       record {
         messages = first ++ second;
         taken = takes_both takes_one old now new first second before.taken took;
-        so_far = introduces_on tables sent told_now later [] first (first ++ second) all i n is within refl marked
+        so_far = introduces_on tables sent sent_now later [] first (first ++ second) all i n is within refl marked
             before.so_far;
       }
 
-  pub all_taken : (old now : S) (tables : List Table) (sent told_now : List Bool) (all : List ℕ) (i : ℕ)
+  pub all_taken : (old now : S) (tables : List Table) (sent sent_now : List Bool) (all : List ℕ) (i : ℕ)
       → length all ≤ i
-      → Introduced takes_one tables sent told_now old now all (drop i all)
+      → Introduced takes_one tables sent sent_now old now all (drop i all)
       → TakesEach takes_one old now (relations_of tables sent all)
-  all_taken old now tables sent told_now all i over so =
-      subst (TakesEach takes_one old now) (all_introduced tables sent told_now [] so.messages all i over so.so_far) so.taken
+  all_taken old now tables sent sent_now all i over so =
+      subst (TakesEach takes_one old now) (all_introduced tables sent sent_now [] so.messages all i over so.so_far) so.taken
 
-  pub all_flags : (old now : S) (tables : List Table) (sent told_now : List Bool) (all : List ℕ) (i : ℕ)
+  pub all_flags : (old now : S) (tables : List Table) (sent sent_now : List Bool) (all : List ℕ) (i : ℕ)
       → length all ≤ i
-      → Introduced takes_one tables sent told_now old now all (drop i all) → told_now ≡ mark_all sent all
-  all_flags old now tables sent told_now all i over so =
-      all_marked tables sent told_now [] so.messages all i over so.so_far
+      → Introduced takes_one tables sent sent_now old now all (drop i all) → sent_now ≡ mark_all sent all
+  all_flags old now tables sent sent_now all i over so =
+      all_marked tables sent sent_now [] so.messages all i over so.so_far
 
   -- ---- changes
 
@@ -107,37 +107,37 @@ module _ {S : Type 0} (takes_one : S → S → Msg → Type 0) where
   none_said sink checked subscriber sent all =
       record { messages = []; taken = refl; so_far = record { text = refl; flags = refl } }
 
-  pub more_said : (old now new : S) (checked : CheckedOf) (subscriber : ℕ) (sent told_now later : List Bool)
+  pub more_said : (old now new : S) (checked : CheckedOf) (subscriber : ℕ) (sent sent_now later : List Bool)
       (all : List Change) (i : ℕ) (c : Change) → c ≡ get_or all i c → i < length all
       → TakesEach takes_one now new
-      (said checked.catalog.tables told_now (got (setting_in checked) subscriber (change_view c)))
-      → later ≡ mark_by told_now (got (setting_in checked) subscriber (change_view c))
-      → Said takes_one checked subscriber sent told_now old now all (drop i all)
+      (said checked.catalog.tables sent_now (got (setting_in checked) subscriber (change_view c)))
+      → later ≡ mark_by sent_now (got (setting_in checked) subscriber (change_view c))
+      → Said takes_one checked subscriber sent sent_now old now all (drop i all)
       → Said takes_one checked subscriber sent later old new all (drop (i + 1) all)
-  more_said old now new checked subscriber sent told_now later all i c is within took marked before =
+  more_said old now new checked subscriber sent sent_now later all i c is within took marked before =
       let first = before.messages in
-      let second = said checked.catalog.tables told_now (got (setting_in checked) subscriber (change_view c)) in
+      let second = said checked.catalog.tables sent_now (got (setting_in checked) subscriber (change_view c)) in
       record {
         messages = first ++ second;
         taken = takes_both takes_one old now new first second before.taken took;
-        so_far = says_on checked subscriber sent told_now later [] first (first ++ second) all i c is within refl
+        so_far = says_on checked subscriber sent sent_now later [] first (first ++ second) all i c is within refl
             marked before.so_far;
       }
 
-  pub all_changes_taken : (old now : S) (checked : CheckedOf) (subscriber : ℕ) (sent told_now : List Bool)
+  pub all_changes_taken : (old now : S) (checked : CheckedOf) (subscriber : ℕ) (sent sent_now : List Bool)
       (all : List Change) (i : ℕ) → length all ≤ i
-      → Said takes_one checked subscriber sent told_now old now all (drop i all)
+      → Said takes_one checked subscriber sent sent_now old now all (drop i all)
       → TakesEach takes_one old now (said_each checked subscriber sent (map change_view all))
-  all_changes_taken old now checked subscriber sent told_now all i over so =
-      subst (TakesEach takes_one old now) (all_said checked subscriber sent told_now [] so.messages all i over so.so_far)
+  all_changes_taken old now checked subscriber sent sent_now all i over so =
+      subst (TakesEach takes_one old now) (all_said checked subscriber sent sent_now [] so.messages all i over so.so_far)
       so.taken
 
-  pub all_changes_told : (old now : S) (checked : CheckedOf) (subscriber : ℕ) (sent told_now : List Bool)
+  pub all_changes_marked : (old now : S) (checked : CheckedOf) (subscriber : ℕ) (sent sent_now : List Bool)
       (all : List Change) (i : ℕ) → length all ≤ i
-      → Said takes_one checked subscriber sent told_now old now all (drop i all)
-      → told_now ≡ mark_each checked subscriber sent (map change_view all)
-  all_changes_told old now checked subscriber sent told_now all i over so =
-      all_told checked subscriber sent told_now [] so.messages all i over so.so_far
+      → Said takes_one checked subscriber sent sent_now old now all (drop i all)
+      → sent_now ≡ mark_each checked subscriber sent (map change_view all)
+  all_changes_marked old now checked subscriber sent sent_now all i over so =
+      each_marked checked subscriber sent sent_now [] so.messages all i over so.so_far
 
   -- what is sent for what the subscriber gets of a change
   pub said_of : (old new : S) (tables all : List Table) (sent : List Bool) (one other : Option r.ChangeOf)
@@ -170,16 +170,16 @@ module _ {S : Type 0} (takes_one : S → S → Msg → Type 0) where
       (subst (λ (ns : List ℕ). TakesEach takes_one old between (relations_of tables sent ns)) (sym named) relations)
       message
 
-pub told_named : (sent later : List Bool) (table : ℕ) (change : r.ChangeOf) → named_in change ≡ table ∷ []
+pub marked_named : (sent later : List Bool) (table : ℕ) (change : r.ChangeOf) → named_in change ≡ table ∷ []
     → later ≡ mark_all sent (table ∷ []) → later ≡ mark_by sent (Some change)
 unfolding mark_by
-told_named sent later table change named is = is ∙ ap (mark_all sent) (sym named)
+marked_named sent later table change named is = is ∙ ap (mark_all sent) (sym named)
 
-pub nothing_told_deleted : (sent : List Bool) (table : ℕ) (part : Option r.PartOf) → part ≡ None
+pub nothing_marked_deleted : (sent : List Bool) (table : ℕ) (part : Option r.PartOf) → part ≡ None
     → sent ≡ mark_by sent (Some (r.Delete table part))
 unfolding mark_by mark_all
-nothing_told_deleted sent table None is = refl
-nothing_told_deleted sent table (Some part) is = absurd cc
+nothing_marked_deleted sent table None is = refl
+nothing_marked_deleted sent table (Some part) is = absurd cc
 
 -- ---- messages in a list
 

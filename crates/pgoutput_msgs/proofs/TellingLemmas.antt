@@ -21,10 +21,10 @@ use Rattle.pgoutput_msgs.specs.Telling.{relation_once, relations_of, mark_one, m
 use Rattle.pgoutput_msgs.specs.declared.message.Msg.{Msg}
 
 -- the Relations so far and those of the remaining tables are those of all
-pub record Introduces (tables : List Table) (sent told_now : List Bool) (before now : List Msg) (all left : List ℕ) :
+pub record Introduces (tables : List Table) (sent sent_now : List Bool) (before now : List Msg) (all left : List ℕ) :
     Type 0 where
-  pub text : now ++ relations_of tables told_now left ≡ before ++ relations_of tables sent all
-  pub flags : mark_all told_now left ≡ mark_all sent all
+  pub text : now ++ relations_of tables sent_now left ≡ before ++ relations_of tables sent all
+  pub flags : mark_all sent_now left ≡ mark_all sent all
 
 relations_of-cons : (tables : List Table) (sent : List Bool) (n : ℕ) (numbers : List ℕ)
     → relations_of tables sent (n ∷ numbers) ≡ relation_once tables sent n
@@ -41,49 +41,49 @@ next_left : (all : List ℕ) (i n : ℕ) → n ≡ get_or all i n → i < length
 next_left all i n is within = at_drop_more (λ (x : List ℕ). x) all i n within
     ∙ ap (λ (x : ℕ). x ∷ drop (i + 1) all) (sym is)
 
-pub introduces_on : (tables : List Table) (sent told_now later : List Bool) (before now after : List Msg)
+pub introduces_on : (tables : List Table) (sent sent_now later : List Bool) (before now after : List Msg)
     (all : List ℕ) (i n : ℕ) → n ≡ get_or all i 0 → i < length all
-    → after ≡ now ++ relation_once tables told_now n → later ≡ mark_one told_now n
-    → Introduces tables sent told_now before now all (drop i all)
+    → after ≡ now ++ relation_once tables sent_now n → later ≡ mark_one sent_now n
+    → Introduces tables sent sent_now before now all (drop i all)
     → Introduces tables sent later before after all (drop (i + 1) all)
-introduces_on tables sent told_now later before now after all i n is within wrote marked so_far =
+introduces_on tables sent sent_now later before now after all i n is within wrote marked so_far =
     let left = at_drop_more (λ (x : List ℕ). x) all i 0 within ∙ ap (λ (x : ℕ). x ∷ drop (i + 1) all) (sym is) in
     record {
       text = ap (λ (x : List Msg). x ++ relations_of tables later (drop (i + 1) all)) wrote
-          ∙ ap (λ (x : List Bool). (now ++ relation_once tables told_now n)
+          ∙ ap (λ (x : List Bool). (now ++ relation_once tables sent_now n)
           ++ relations_of tables x (drop (i + 1) all)) marked
-          ∙ append_assoc now (relation_once tables told_now n)
-          (relations_of tables (mark_one told_now n) (drop (i + 1) all))
-          ∙ ap (λ (x : List Msg). now ++ x) (sym (relations_of-cons tables told_now n (drop (i + 1) all)))
-          ∙ ap (λ (x : List ℕ). now ++ relations_of tables told_now x) (sym left) ∙ so_far.text;
+          ∙ append_assoc now (relation_once tables sent_now n)
+          (relations_of tables (mark_one sent_now n) (drop (i + 1) all))
+          ∙ ap (λ (x : List Msg). now ++ x) (sym (relations_of-cons tables sent_now n (drop (i + 1) all)))
+          ∙ ap (λ (x : List ℕ). now ++ relations_of tables sent_now x) (sym left) ∙ so_far.text;
       flags = ap (λ (x : List Bool). mark_all x (drop (i + 1) all)) marked
-          ∙ sym (mark_all-cons told_now n (drop (i + 1) all))
-          ∙ ap (mark_all told_now) (sym left) ∙ so_far.flags;
+          ∙ sym (mark_all-cons sent_now n (drop (i + 1) all))
+          ∙ ap (mark_all sent_now) (sym left) ∙ so_far.flags;
     }
 
-pub all_introduced : (tables : List Table) (sent told_now : List Bool) (before now : List Msg) (all : List ℕ) (i : ℕ)
-    → length all ≤ i → Introduces tables sent told_now before now all (drop i all)
+pub all_introduced : (tables : List Table) (sent sent_now : List Bool) (before now : List Msg) (all : List ℕ) (i : ℕ)
+    → length all ≤ i → Introduces tables sent sent_now before now all (drop i all)
     → now ≡ before ++ relations_of tables sent all
 unfolding relations_of
-all_introduced tables sent told_now before now all i over so_far =
+all_introduced tables sent sent_now before now all i over so_far =
     sym (append-nil now) ∙ ap (λ (x : List Msg). now ++ x)
-    (sym (at_drop_all (relations_of tables told_now) all i over)) ∙ so_far.text
+    (sym (at_drop_all (relations_of tables sent_now) all i over)) ∙ so_far.text
 
-pub all_marked : (tables : List Table) (sent told_now : List Bool) (before now : List Msg) (all : List ℕ) (i : ℕ)
-    → length all ≤ i → Introduces tables sent told_now before now all (drop i all)
-    → told_now ≡ mark_all sent all
+pub all_marked : (tables : List Table) (sent sent_now : List Bool) (before now : List Msg) (all : List ℕ) (i : ℕ)
+    → length all ≤ i → Introduces tables sent sent_now before now all (drop i all)
+    → sent_now ≡ mark_all sent all
 unfolding mark_all
-all_marked tables sent told_now before now all i over so_far = sym (at_drop_all (mark_all told_now) all i over)
+all_marked tables sent sent_now before now all i over so_far = sym (at_drop_all (mark_all sent_now) all i over)
     ∙ so_far.flags
 
 -- ---- changes
 
 -- what was sent so far and what is sent for the remaining changes is what is sent for all
-pub record Says (checked : CheckedOf) (subscriber : ℕ) (sent told_now : List Bool) (before now : List Msg)
+pub record Says (checked : CheckedOf) (subscriber : ℕ) (sent sent_now : List Bool) (before now : List Msg)
     (all left : List Change) : Type 0 where
-  pub text : now ++ said_each checked subscriber told_now (map change_view left) ≡ before
+  pub text : now ++ said_each checked subscriber sent_now (map change_view left) ≡ before
       ++ said_each checked subscriber sent (map change_view all)
-  pub flags : mark_each checked subscriber told_now (map change_view left)
+  pub flags : mark_each checked subscriber sent_now (map change_view left)
       ≡ mark_each checked subscriber sent (map change_view all)
 
 said_each-cons : (checked : CheckedOf) (subscriber : ℕ) (sent : List Bool) (c : ChangeOf) (changes : List ChangeOf)
@@ -104,43 +104,43 @@ next_change : (all : List Change) (i : ℕ) (c : Change) → c ≡ get_or all i 
 next_change all i c is within = at_drop_more (map change_view) all i c within
     ∙ ap (λ (x : Change). change_view x ∷ map change_view (drop (i + 1) all)) (sym is)
 
-pub says_on : (checked : CheckedOf) (subscriber : ℕ) (sent told_now later : List Bool) (before now after : List Msg)
+pub says_on : (checked : CheckedOf) (subscriber : ℕ) (sent sent_now later : List Bool) (before now after : List Msg)
     (all : List Change) (i : ℕ) (c : Change) → c ≡ get_or all i c → i < length all
-    → after ≡ now ++ said checked.catalog.tables told_now (got (setting_in checked) subscriber (change_view c))
-    → later ≡ mark_by told_now (got (setting_in checked) subscriber (change_view c))
-    → Says checked subscriber sent told_now before now all (drop i all)
+    → after ≡ now ++ said checked.catalog.tables sent_now (got (setting_in checked) subscriber (change_view c))
+    → later ≡ mark_by sent_now (got (setting_in checked) subscriber (change_view c))
+    → Says checked subscriber sent sent_now before now all (drop i all)
     → Says checked subscriber sent later before after all (drop (i + 1) all)
-says_on checked subscriber sent told_now later before now after all i c is within wrote marked so_far =
+says_on checked subscriber sent sent_now later before now after all i c is within wrote marked so_far =
     let left = next_change all i c is within in
-    let one = said checked.catalog.tables told_now (got (setting_in checked) subscriber (change_view c)) in
-    let next = mark_by told_now (got (setting_in checked) subscriber (change_view c)) in
+    let one = said checked.catalog.tables sent_now (got (setting_in checked) subscriber (change_view c)) in
+    let next = mark_by sent_now (got (setting_in checked) subscriber (change_view c)) in
     let rest = map change_view (drop (i + 1) all) in
     record {
       text = ap (λ (x : List Msg). x ++ said_each checked subscriber later rest) wrote
           ∙ ap (λ (x : List Bool). (now ++ one) ++ said_each checked subscriber x rest) marked
           ∙ append_assoc now one (said_each checked subscriber next rest)
-          ∙ ap (λ (x : List Msg). now ++ x) (sym (said_each-cons checked subscriber told_now (change_view c) rest))
-          ∙ ap (λ (x : List ChangeOf). now ++ said_each checked subscriber told_now x) (sym left) ∙ so_far.text;
+          ∙ ap (λ (x : List Msg). now ++ x) (sym (said_each-cons checked subscriber sent_now (change_view c) rest))
+          ∙ ap (λ (x : List ChangeOf). now ++ said_each checked subscriber sent_now x) (sym left) ∙ so_far.text;
       flags = ap (λ (x : List Bool). mark_each checked subscriber x rest) marked
-          ∙ sym (mark_each-cons checked subscriber told_now (change_view c) rest)
-          ∙ ap (mark_each checked subscriber told_now) (sym left) ∙ so_far.flags;
+          ∙ sym (mark_each-cons checked subscriber sent_now (change_view c) rest)
+          ∙ ap (mark_each checked subscriber sent_now) (sym left) ∙ so_far.flags;
     }
 
-pub all_said : (checked : CheckedOf) (subscriber : ℕ) (sent told_now : List Bool) (before now : List Msg)
-    (all : List Change) (i : ℕ) → length all ≤ i → Says checked subscriber sent told_now before now all (drop i all)
+pub all_said : (checked : CheckedOf) (subscriber : ℕ) (sent sent_now : List Bool) (before now : List Msg)
+    (all : List Change) (i : ℕ) → length all ≤ i → Says checked subscriber sent sent_now before now all (drop i all)
     → now ≡ before ++ said_each checked subscriber sent (map change_view all)
 unfolding said_each
-all_said checked subscriber sent told_now before now all i over so_far =
+all_said checked subscriber sent sent_now before now all i over so_far =
     sym (append-nil now) ∙ ap (λ (x : List Msg). now ++ x)
-    (sym (at_drop_all (λ (left : List Change). said_each checked subscriber told_now (map change_view left)) all i
+    (sym (at_drop_all (λ (left : List Change). said_each checked subscriber sent_now (map change_view left)) all i
     over)) ∙ so_far.text
 
-pub all_told : (checked : CheckedOf) (subscriber : ℕ) (sent told_now : List Bool) (before now : List Msg)
-    (all : List Change) (i : ℕ) → length all ≤ i → Says checked subscriber sent told_now before now all (drop i all)
-    → told_now ≡ mark_each checked subscriber sent (map change_view all)
+pub each_marked : (checked : CheckedOf) (subscriber : ℕ) (sent sent_now : List Bool) (before now : List Msg)
+    (all : List Change) (i : ℕ) → length all ≤ i → Says checked subscriber sent sent_now before now all (drop i all)
+    → sent_now ≡ mark_each checked subscriber sent (map change_view all)
 unfolding mark_each
-all_told checked subscriber sent told_now before now all i over so_far =
-    sym (at_drop_all (λ (left : List Change). mark_each checked subscriber told_now (map change_view left)) all i
+each_marked checked subscriber sent sent_now before now all i over so_far =
+    sym (at_drop_all (λ (left : List Change). mark_each checked subscriber sent_now (map change_view left)) all i
     over) ∙ so_far.flags
 
 -- a change among those that can be sent can be sent
@@ -285,9 +285,9 @@ all_kept test all kept i over so_far =
 
 -- ---- if nothing is sent
 
-pub nothing_told : (sent : List Bool) → sent ≡ mark_by sent None
+pub nothing_marked : (sent : List Bool) → sent ≡ mark_by sent None
 unfolding mark_by
-nothing_told sent = refl
+nothing_marked sent = refl
 
 pub enclosed_some : (commit : CommitOf) (messages : List Msg) → (length messages ≡ 0 → ⊥)
     → (begin_msg commit ∷ messages) ++ commit_msg commit ∷ [] ≡ enclosed commit messages

@@ -26,8 +26,8 @@ use Rattle.pgoutput_msgs.specs.Transactions.{tables_of, is_among, first_relation
 use Rattle.pgoutput_msgs.specs.declared.message.Msg.{Msg}
 use Rattle.filter_tree.proofs.Tests.{or_true, or_false}
 
-abbrev is_told : List Bool → ℕ → Bool
-is_told sent number = slice_index_or sent number false
+abbrev is_announced : List Bool → ℕ → Bool
+is_announced sent number = slice_index_or sent number false
 
 -- ---- numbers
 
@@ -72,7 +72,7 @@ module _ (tables : List Table) where
   named_one sent named number is = record {
     long = length-set sent number true ∙ is.long;
     each = λ n within. elim (same_or_other n number) [
-      | inl e ↦ subst (λ k. is_told (mark_one sent number) k ≡ is_among k (named ++ number ∷ [])) (sym e)
+      | inl e ↦ subst (λ k. is_announced (mark_one sent number) k ≡ is_among k (named ++ number ∷ [])) (sym e)
           (get_or-set_same sent number true false (let long = is.long in omega arith) ∙ sym (among_itself number named))
       | inr differs ↦ get_or-set_other sent number n true false differs ∙ is.each n within
           ∙ sym (among_others n number named differs)
@@ -102,11 +102,11 @@ module _ (tables : List Table) where
       → relation_once tables sent number ≡ first_relation tables named number
   unfolding relation_once
   once_first sent named number is = elim (below_or_not number (length tables)) [
-    | inl within ↦ introduced_by (is_told sent number) number
+    | inl within ↦ introduced_by (is_announced sent number) number
         ∙ ap (λ (b : Bool). if b then [] else a_relation number (slice_get tables number)) (is.each number within)
     | inr beyond ↦
         let none : slice_get tables number ≡ None = slice_get_past tables number beyond in
-        introduced_by (is_told sent number) number ∙ none_there (is_told sent number) number none
+        introduced_by (is_announced sent number) number ∙ none_there (is_announced sent number) number none
         ∙ sym (none_there (is_among number named) number none)
   ]
 
@@ -127,9 +127,9 @@ all_said tables sent [] = []
 all_said tables sent (change ∷ changes) =
     said tables sent (Some change) ++ all_said tables (mark_by sent (Some change)) changes
 
-all_told : List Bool → List r.ChangeOf → List Bool
-all_told sent [] = sent
-all_told sent (change ∷ changes) = all_told (mark_by sent (Some change)) changes
+marked_by_all : List Bool → List r.ChangeOf → List Bool
+marked_by_all sent [] = sent
+marked_by_all sent (change ∷ changes) = marked_by_all (mark_by sent (Some change)) changes
 
 module _ (checked : CheckedOf) (subscriber : ℕ) where
   abbrev tables : List Table
@@ -145,11 +145,11 @@ module _ (checked : CheckedOf) (subscriber : ℕ) where
   said_one sent None others = refl
   said_one sent (Some change) others = refl
 
-  told_first : (sent : List Bool) (one : Option r.ChangeOf) (others : List r.ChangeOf)
-      → all_told (mark_by sent one) others ≡ all_told sent (cons_option one others)
-  unfolding mark_by all_told
-  told_first sent None others = refl
-  told_first sent (Some change) others = refl
+  marked_first : (sent : List Bool) (one : Option r.ChangeOf) (others : List r.ChangeOf)
+      → marked_by_all (mark_by sent one) others ≡ marked_by_all sent (cons_option one others)
+  unfolding mark_by marked_by_all
+  marked_first sent None others = refl
+  marked_first sent (Some change) others = refl
 
   said_mine : (sent : List Bool) (changes : List r.ChangeOf)
       → said_each checked subscriber sent changes ≡ all_said tables sent (filter_map mine changes)
@@ -159,12 +159,12 @@ module _ (checked : CheckedOf) (subscriber : ℕ) where
       ap (λ (x : List Msg). said tables sent (mine change) ++ x) (said_mine (mark_by sent (mine change)) changes)
       ∙ said_one sent (mine change) (filter_map mine changes)
 
-  told_mine : (sent : List Bool) (changes : List r.ChangeOf)
-      → mark_each checked subscriber sent changes ≡ all_told sent (filter_map mine changes)
-  unfolding mark_each all_told
-  told_mine sent [] = refl
-  told_mine sent (change ∷ changes) = told_mine (mark_by sent (mine change)) changes
-      ∙ told_first sent (mine change) (filter_map mine changes)
+  marked_mine : (sent : List Bool) (changes : List r.ChangeOf)
+      → mark_each checked subscriber sent changes ≡ marked_by_all sent (filter_map mine changes)
+  unfolding mark_each marked_by_all
+  marked_mine sent [] = refl
+  marked_mine sent (change ∷ changes) = marked_mine (mark_by sent (mine change)) changes
+      ∙ marked_first sent (mine change) (filter_map mine changes)
 
 -- ---- what is seen, as it is recorded
 
@@ -213,10 +213,10 @@ module _ (checked : CheckedOf) (covered : Covered (setting_in checked)) where
       ∙ ap (λ (relations : List Msg). relations ++ seen_message (setting_in checked) one)
       (relations_first all_tables sent named (tables_of one) is)
 
-  told_one_more : (sent : List Bool) (named : List ℕ) (one : Seen) → AreNamed all_tables sent named
+  marked_one_more : (sent : List Bool) (named : List ℕ) (one : Seen) → AreNamed all_tables sent named
       → AreNamed all_tables (mark_by sent (Some (recorded one))) (named ++ tables_of one)
   unfolding mark_by
-  told_one_more sent named one is =
+  marked_one_more sent named one is =
       subst (λ numbers. AreNamed all_tables (mark_all sent numbers) (named ++ tables_of one))
       (sym (names_as (setting_in checked) covered one))
       (named_all all_tables sent named (tables_of one) is)
@@ -229,21 +229,21 @@ module _ (checked : CheckedOf) (covered : Covered (setting_in checked)) where
       ap (λ (messages : List Msg). messages
       ++ all_said all_tables (mark_by sent (Some (recorded one))) (map recorded all)) (said_as sent named one is)
       ∙ ap (λ (messages : List Msg). change_messages checked named one ++ messages)
-      (changes_as (mark_by sent (Some (recorded one))) (named ++ tables_of one) all (told_one_more sent named one is))
+      (changes_as (mark_by sent (Some (recorded one))) (named ++ tables_of one) all (marked_one_more sent named one is))
 
-  told_as : (sent : List Bool) (named : List ℕ) (all : List Seen) → AreNamed all_tables sent named
-      → AreNamed all_tables (all_told sent (map recorded all)) (named ++ flat_map tables_of all)
-  unfolding all_told
-  told_as sent named [] is = subst (AreNamed all_tables sent) (search rules) is
-  told_as sent named (one ∷ all) is =
-      subst (AreNamed all_tables (all_told (mark_by sent (Some (recorded one))) (map recorded all)))
+  marked_as : (sent : List Bool) (named : List ℕ) (all : List Seen) → AreNamed all_tables sent named
+      → AreNamed all_tables (marked_by_all sent (map recorded all)) (named ++ flat_map tables_of all)
+  unfolding marked_by_all
+  marked_as sent named [] is = subst (AreNamed all_tables sent) (search rules) is
+  marked_as sent named (one ∷ all) is =
+      subst (AreNamed all_tables (marked_by_all (mark_by sent (Some (recorded one))) (map recorded all)))
       (append_assoc named (tables_of one) (flat_map tables_of all)
       ∙ ap (λ (numbers : List ℕ). named ++ numbers) (sym (flat_map-cons tables_of one all)))
-      (told_as (mark_by sent (Some (recorded one))) (named ++ tables_of one) all (told_one_more sent named one is))
+      (marked_as (mark_by sent (Some (recorded one))) (named ++ tables_of one) all (marked_one_more sent named one is))
 
   -- each change has a message
-  something_told : (named : List ℕ) (one : Seen) (all : List Seen) → changes_messages checked named (one ∷ all) ≢ []
-  something_told named one all none =
+  something_said : (named : List ℕ) (one : Seen) (all : List Seen) → changes_messages checked named (one ∷ all) ≢ []
+  something_said named one all none =
       longer (change_messages checked named one) (changes_messages checked (named ++ tables_of one) all)
       (let one_message = one_seen (setting_in checked) covered one in
       simp length-append (omega (arith, one_message)))
@@ -254,12 +254,12 @@ within : (commit : CommitOf) (messages : List Msg) → messages ≢ []
 within commit [] some = absurd (some refl)
 within commit (first ∷ others) some = refl
 
-told_within : (checked : CheckedOf) → Covered (setting_in checked)
+enclosed_within : (checked : CheckedOf) → Covered (setting_in checked)
     → (named : List ℕ) (commit : CommitOf) (all : List Seen)
     → enclosed commit (changes_messages checked named all) ≡ transaction_messages checked named commit.number commit.time all
-told_within checked covered named commit [] = refl
-told_within checked covered named commit (one ∷ all) =
-    within commit (changes_messages checked named (one ∷ all)) (something_told checked covered named one all)
+enclosed_within checked covered named commit [] = refl
+enclosed_within checked covered named commit (one ∷ all) =
+    within commit (changes_messages checked named (one ∷ all)) (something_said checked covered named one all)
 
 -- ---- the law
 
@@ -274,8 +274,8 @@ commits_tell_transactions checked covered subscriber sent named is commit tables
       messages = ap (enclosed commit)
           (said_mine checked subscriber sent commit.changes ∙ ap (all_said checked.catalog.tables sent) gets
           ∙ changes_as checked covered sent named all is)
-          ∙ told_within checked covered named commit all;
+          ∙ enclosed_within checked covered named commit all;
       named_after = subst (λ flags. AreNamed checked.catalog.tables flags (named ++ flat_map tables_of all))
-          (sym (told_mine checked subscriber sent commit.changes ∙ ap (all_told sent) gets))
-          (told_as checked covered sent named all is);
+          (sym (marked_mine checked subscriber sent commit.changes ∙ ap (marked_by_all sent) gets))
+          (marked_as checked covered sent named all is);
     }

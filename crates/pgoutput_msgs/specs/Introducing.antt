@@ -41,7 +41,7 @@ AreIntroduced known (message ∷ messages) = IsIntroduced known message
 -- ---- commits
 
 -- the OIDs that are known are those of the tables that were announced
-pub record AreTold (sent : List Bool) (known : List ℕ) : Type 0 where
+pub record KnownAreAnnounced (sent : List Bool) (known : List ℕ) : Type 0 where
   pub each : (table : ℕ) → slice_index_or sent table false ≡ true → Contains known (oid_of table)
   pub only : (table : ℕ) → Contains known (oid_of table) → slice_index_or sent table false ≡ true
 
@@ -85,8 +85,8 @@ LogsAreOfTables = (book : Book) (transactions : List Transaction) → StandsFor 
 -- If the OIDs of the tables that were announced are known, the messages are introduced, and then those of the tables
 -- that were announced after them are known.
 pub record Introduces (sent after : List Bool) (messages : List Msg) : Type 0 where
-  pub introduced : (known : List ℕ) → AreTold sent known → AreIntroduced known messages
-  pub known : (known : List ℕ) → AreTold sent known → AreTold after (fold known_after known messages)
+  pub introduced : (known : List ℕ) → KnownAreAnnounced sent known → AreIntroduced known messages
+  pub known : (known : List ℕ) → KnownAreAnnounced sent known → KnownAreAnnounced after (fold known_after known messages)
 
 -- The same holds for the messages of a commit, if there is a flag for each table,
 abbrev pub CommitsIntroduce : Type 0

@@ -15,7 +15,7 @@ use replica_identity::OldPart;
 use std::alloc::AllocError;
 
 /// Whether the Relation of the table was sent.
-fn is_told(relation_sent: &[bool], number: TableNumber) -> bool
+fn is_announced(relation_sent: &[bool], number: TableNumber) -> bool
     ensures { result ≡ slice_index_or relation_sent.now number false }
 {
     relation_sent.get(number).copied().unwrap_or(false)
@@ -68,7 +68,7 @@ fn say_relation<S: MessageSink>(
     ensures { OnOk result
         (TakesEach S.takes_one sink.old sink.new (spec.relation_once tables.now relation_sent.now number)) }
 {
-    if is_told(relation_sent, number) {
+    if is_announced(relation_sent, number) {
         return Ok(());
     }
     say_new_relation(tables, number, sink)?;

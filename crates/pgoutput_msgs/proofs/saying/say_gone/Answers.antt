@@ -1,6 +1,6 @@
 use Rattle.replica_identity.specs.ChangeView.{part_view}
 use Rattle.table_changes.specs.Records as r
-use Rattle.pgoutput_msgs.proofs.SinkLemmas.{takes_named, told_named}
+use Rattle.pgoutput_msgs.proofs.SinkLemmas.{takes_named, marked_named}
 use Rattle.pgoutput_msgs.proofs.saying.say_gone.Goals as goal
 
 pub returns-clause-said : goal.returns-clause-said
@@ -12,5 +12,5 @@ returns-clause-said g c =
 
 pub returns-clause-relation_sent : goal.returns-clause-relation_sent
 returns-clause-relation_sent g c =
-    told_named c.args.relation_sent.now c.say_relations.new.relation_sent c.args.table
+    marked_named c.args.relation_sent.now c.say_relations.new.relation_sent c.args.table
     (r.Delete c.args.table (part_view c.args.old.now)) c.requires.recorded c.in_ok-say_relations.ensures.relation_sent

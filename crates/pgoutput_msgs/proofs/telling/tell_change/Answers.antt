@@ -9,7 +9,7 @@ use Rattle.table_changes.specs.Records as r
 use Rattle.pgoutput_msgs.specs.Telling.{mark_by}
 use Rattle.pgoutput_msgs.proofs.Everywhere.{is_sendable}
 use Rattle.pgoutput_msgs.proofs.SinkLemmas.{said_of, nothing_taken}
-use Rattle.pgoutput_msgs.proofs.TellingLemmas.{got_none, got_truncate, nothing_told}
+use Rattle.pgoutput_msgs.proofs.TellingLemmas.{got_none, got_truncate, nothing_marked}
 use Rattle.pgoutput_msgs.proofs.telling.tell_change.Goals as goal
 
 pub say_truncate-requires-clause-sendable : goal.say_truncate-requires-clause-sendable
@@ -42,5 +42,5 @@ returns-in-None-clause-relation_sent g c =
     let plan : PlanOf = plan_view c.plan-plan.result.now in
     let own : plan ≡ checked.plan = search rules in
     let out : None ≡ out_for plan c.args.subscriber change = search rules in
-    nothing_told c.args.relation_sent.now
+    nothing_marked c.args.relation_sent.now
     ∙ ap (mark_by c.args.relation_sent.now) (sym (got_none checked c.args.subscriber change plan own out))

@@ -1,6 +1,6 @@
 use Rattle.std.proofs.Common.{◌+◌}
 use Rattle.shard_checker.specs.CheckedView.{checked_view}
-use Rattle.pgoutput_msgs.proofs.SinkLemmas.{none_said, more_said, all_changes_taken, all_changes_told}
+use Rattle.pgoutput_msgs.proofs.SinkLemmas.{none_said, more_said, all_changes_taken, all_changes_marked}
 use Rattle.pgoutput_msgs.proofs.SparedLemmas.{all_passed}
 use Rattle.pgoutput_msgs.proofs.TellingLemmas.{sendable_change}
 use Rattle.pgoutput_msgs.proofs.telling.tell_each.Goals as goal
@@ -39,6 +39,6 @@ returns-clause-said g c =
 
 pub returns-clause-relation_sent : goal.returns-clause-relation_sent
 returns-clause-relation_sent g c =
-    all_changes_told g.S.MessageSink.takes_one c.args.sink.now c.loop-place.sink (checked_view c.args.checked.now)
+    all_changes_marked g.S.MessageSink.takes_one c.args.sink.now c.loop-place.sink (checked_view c.args.checked.now)
     c.args.subscriber c.args.relation_sent.now c.loop-place.relation_sent
     c.args.changes.now c.loop-place.place c.loop-place-test.false c.loop-place.invariant
