@@ -84,7 +84,8 @@ tables_from all number (table ∷ tables) =
 -- ---- publications
 
 abbrev pub where_text : List Column → Option Expr → List ℕ
-where_text columns filter = text_by (λ it. codes " WHERE (" ++ (expr_text columns level.Or false it ++ codes ")")) filter
+where_text columns filter =
+    text_by (λ it. codes " WHERE (" ++ (expr_text columns level.Or false it ++ codes ")")) filter
 
 -- a table that is named, with its filter
 abbrev pub named_text : Option Expr → Table → List ℕ
