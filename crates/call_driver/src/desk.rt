@@ -34,7 +34,7 @@ pub struct Desk {
     pub checked: Option<Arc<Checked, Global>>,
     pub book: Option<Book>,
     /// Which tables were announced to a subscriber.
-    pub told: Vec<bool>,
+    pub announced: Vec<bool>,
     pub deframer: Option<Deframer>,
     /// The responses to starts.
     pub response: BytesMut,
@@ -61,7 +61,7 @@ impl Desk {
             change: None,
             checked: None,
             book: None,
-            told: Vec::new(alloc),
+            announced: Vec::new(alloc),
             deframer: None,
             response: BytesMut::new(alloc),
             ears: Vec::new(alloc),

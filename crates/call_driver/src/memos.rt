@@ -73,13 +73,13 @@ fn filtered(desk: &Desk, given: &str) -> Result<String> {
     let (row, filter) = first(given);
     let memo = desk.memo.as_ref().context("there is no memo")?;
     let said = said_of(desk, row)?;
-    let told = match memo.answer(said, count(filter)?) {
+    let word = match memo.answer(said, count(filter)?) {
         None => "none",
         Some(Tri::True) => "true",
         Some(Tri::False) => "false",
         Some(Tri::Null) => "null",
     };
-    Ok(String::from_str(desk.alloc, told)?)
+    Ok(String::from_str(desk.alloc, word)?)
 }
 
 /// Whether the memo has this text of the row, and whether it has another one.

@@ -12,9 +12,9 @@ use tables_log::Commit;
 
 /// Begins a connection on which these tables were announced to the subscriber.
 fn begin(desk: &mut Desk, given: &str) -> Result<String> {
-    desk.told = Vec::new(desk.alloc);
+    desk.announced = Vec::new(desk.alloc);
     for word in given.split(" ") {
-        desk.told.push(truth(word)?)?;
+        desk.announced.push(truth(word)?)?;
     }
     Ok(String::from_str(desk.alloc, "ok")?)
 }
@@ -24,9 +24,9 @@ fn messages(
     checked: &Checked,
     subscriber: usize,
     commit: &Commit,
-    told: &mut [bool],
+    announced: &mut [bool],
 ) -> Result<Vec<Msg>, AllocError> {
-    messages_of(alloc, checked, subscriber, commit, told)
+    messages_of(alloc, checked, subscriber, commit, announced)
 }
 
 /// The bytes of the messages, separated by spaces.
@@ -56,12 +56,12 @@ fn messages_for(desk: &mut Desk, given: &str) -> Result<Vec<Msg>> {
         &checked,
         subscriber,
         commit,
-        desk.told.as_mut_slice(),
+        desk.announced.as_mut_slice(),
     )?)
 }
 
 /// What is sent to a subscriber for a commit.
-fn told(desk: &mut Desk, given: &str) -> Result<String> {
+fn sent(desk: &mut Desk, given: &str) -> Result<String> {
     let messages = messages_for(desk, given)?;
     shown(desk.alloc, messages.as_slice())
 }
@@ -82,9 +82,9 @@ fn lengths(desk: &mut Desk, given: &str) -> Result<String> {
 pub fn answer(desk: &mut Desk, call: &str, rest: &str) -> Result<Option<String>> {
     Ok(Some(match call {
         "new" => begin(desk, rest)?,
-        "of" => told(desk, rest)?,
+        "of" => sent(desk, rest)?,
         "lengths" => lengths(desk, rest)?,
-        "told" => format!(in desk.alloc; "{:?}", desk.told.as_slice())?,
+        "announced" => format!(in desk.alloc; "{:?}", desk.announced.as_slice())?,
         _ => return Ok(None),
     }))
 }

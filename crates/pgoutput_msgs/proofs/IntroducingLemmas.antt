@@ -52,7 +52,8 @@ first_or_later : (oid other : ℕ) (known : List ℕ) (P : Type 0) → (oid ≡ 
 first_or_later oid other known P first later (zero, within, is) = first is
 first_or_later oid other known P first later (suc k, within, is) = later (k, omega (arith, within), is)
 
-announced_itself : (sent : List Bool) (number : ℕ) → number < length sent → is_announced (mark_one sent number) number ≡ true
+announced_itself : (sent : List Bool) (number : ℕ) → number < length sent
+    → is_announced (mark_one sent number) number ≡ true
 announced_itself sent number within = get_or-set_same sent number true false within
 
 is_same : (n number : ℕ) (P : Type 0) → (n ≡ number → P) → (n ≢ number → P) → P
@@ -81,7 +82,8 @@ new_relation sent number table within is_new = record {
   known = λ known is. record {
     each = λ n h. is_same n number (Contains (oid_of number ∷ known) (oid_of n))
         (λ e. subst (λ k. Contains (oid_of number ∷ known) (oid_of k)) (sym e) (first_known (oid_of number) known))
-        (λ differs. still_known (oid_of number) (oid_of n) known (is.each n (announced_before sent number n differs h)));
+        (λ differs. still_known (oid_of number) (oid_of n) known
+        (is.each n (announced_before sent number n differs h)));
     only = λ n. first_or_later (oid_of number) (oid_of n) known (is_announced (mark_one sent number) n ≡ true)
         (λ e. let same : number ≡ n = omega (arith, e) in
         subst (λ k. is_announced (mark_one sent number) k ≡ true) same (announced_itself sent number within))
@@ -134,7 +136,8 @@ length-mark_all sent (number ∷ numbers) = length-mark_all (mark_one sent numbe
 -- ---- changes
 
 stays_announced : (sent : List Bool) (numbers : List ℕ) (most : ℕ) → most ≤ length sent
-    → All (λ table. table < most) numbers → (n : ℕ) → is_announced sent n ≡ true → is_announced (mark_all sent numbers) n ≡ true
+    → All (λ table. table < most) numbers → (n : ℕ) → is_announced sent n ≡ true
+    → is_announced (mark_all sent numbers) n ≡ true
 unfolding mark_all
 stays_announced sent [] most long of n h = h
 stays_announced sent (number ∷ numbers) most long of n h =
@@ -263,7 +266,8 @@ one_said tables sent (Some change) long h =
     both sent (mark_all sent (named_in change)) (mark_all sent (named_in change))
     (relations_of tables sent (named_in change)) (message_of change)
     (all_relations tables sent (named_in change) long h)
-    (change_message (mark_all sent (named_in change)) change (each_announced sent (named_in change) (length tables) long h))
+    (change_message (mark_all sent (named_in change)) change
+    (each_announced sent (named_in change) (length tables) long h))
 
 length-mark_by : (sent : List Bool) (change : Option r.ChangeOf) → length (mark_by sent change) ≡ length sent
 unfolding mark_by

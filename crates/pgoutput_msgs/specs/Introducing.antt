@@ -86,7 +86,8 @@ LogsAreOfTables = (book : Book) (transactions : List Transaction) → StandsFor 
 -- that were announced after them are known.
 pub record Introduces (sent after : List Bool) (messages : List Msg) : Type 0 where
   pub introduced : (known : List ℕ) → KnownAreAnnounced sent known → AreIntroduced known messages
-  pub known : (known : List ℕ) → KnownAreAnnounced sent known → KnownAreAnnounced after (fold known_after known messages)
+  pub known : (known : List ℕ) → KnownAreAnnounced sent known
+      → KnownAreAnnounced after (fold known_after known messages)
 
 -- The same holds for the messages of a commit, if there is a flag for each table,
 abbrev pub CommitsIntroduce : Type 0
