@@ -76,8 +76,8 @@ impl SearchState {
         found: &[Deciders],
     ) -> Deciders {
         if !is_at(&self.live, place) {
-            let is_told = outcome_at(&self.told, place) == wanted;
-            return if is_told { DECIDED } else { NEVER };
+            let is_implied = outcome_at(&self.implied, place) == wanted;
+            return if is_implied { DECIDED } else { NEVER };
         }
         match (condition, wanted) {
             (Condition::Const(_), _) => NEVER,

@@ -149,7 +149,7 @@ impl Facts {
 
     /// Finds what the atoms of the column of this number, with these values, say about it.
     pub fn find(&mut self, problem: &Problem<'_>, known: &[Mask], number: usize) {
-        let mut facts = told(problem, known, number);
+        let mut facts = stated_facts(problem, known, number);
         for term in problem.terms_of(number) {
             if let Some(domain) = problem.terms.get(*term) {
                 let left = left_to(domain, facts.held, facts.refused);
@@ -204,7 +204,7 @@ impl Facts {
 }
 
 /// What the declaration of the column of this number and its atoms with these values say.
-fn told(problem: &Problem<'_>, known: &[Mask], number: usize) -> ColumnFacts {
+fn stated_facts(problem: &Problem<'_>, known: &[Mask], number: usize) -> ColumnFacts {
     let mut facts = UNKNOWN;
     if problem.is_declared(number) {
         facts.nullness = Nullness::Present;

@@ -47,7 +47,7 @@ impl SearchState {
     /// Sets the bits of the shares that take all rows, from this place on.
     fn add_share_bits(&self, problem: &Problem<'_>, words: &mut [u64], start: usize) {
         for (number, share) in problem.shares.iter().enumerate() {
-            if outcome_at(&self.told, share.root()) == Outcome::Met {
+            if outcome_at(&self.implied, share.root()) == Outcome::Met {
                 set_bit(words, start.saturating_add(number));
             }
         }

@@ -195,7 +195,7 @@ impl<'a, 'q> Search<'a, 'q> {
             .get(number)
             .copied()
             .ok_or(Stop::TooLong)?;
-        if outcome_at(&self.state.told, share.root()) == Outcome::Met {
+        if outcome_at(&self.state.implied, share.root()) == Outcome::Met {
             return Ok(SearchMove::Owner(number));
         }
         let atom = self.state.settling(self.alloc, self.problem, share)?;

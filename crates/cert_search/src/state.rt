@@ -19,7 +19,7 @@ pub enum Standing {
     Undecided,
 }
 
-/// What is known at a node. `known` and `told` are what the path says about atoms and conditions; `likely` and
+/// What is known at a node. `known` and `implied` are what the path says about atoms and conditions; `likely` and
 /// `expected` are what the facts say, which may be more.
 #[derive(Drop)]
 pub struct SearchState {
@@ -31,7 +31,7 @@ pub struct SearchState {
     /// The columns whose facts must be found again.
     stale: Vec<bool>,
     /// What the path says about each condition.
-    pub told: Vec<Outcome>,
+    pub implied: Vec<Outcome>,
     /// After how many splits on the path each share was closed.
     closed_after: Vec<usize>,
     /// The conditions that the path leaves open, and that may make a difference to a share.
@@ -61,7 +61,7 @@ impl SearchState {
             likely: open_masks(alloc, problem)?,
             facts: Facts::new(alloc, problem)?,
             stale: vec![in alloc; true; problem.columns.len()]?,
-            told: vec![in alloc; Outcome::Open; conditions]?,
+            implied: vec![in alloc; Outcome::Open; conditions]?,
             closed_after: vec![in alloc; usize::MAX; problem.shares.len()]?,
             live: vec![in alloc; false; conditions]?,
             expected: vec![in alloc; Outcome::Open; conditions]?,
@@ -132,7 +132,7 @@ impl SearchState {
         for (number, share) in problem.shares.iter().enumerate() {
             if !self.was_closed(number, splits) {
                 self.follow_share(problem, *share);
-                let is_closed = outcome_at(&self.told, share.root()) == Outcome::Missed;
+                let is_closed = outcome_at(&self.implied, share.root()) == Outcome::Missed;
                 let closed = if is_closed { splits } else { usize::MAX };
                 put(&mut self.closed_after, number, closed);
             }
@@ -141,15 +141,15 @@ impl SearchState {
 
     fn follow_share(&mut self, problem: &Problem<'_>, share: ShareFormula) {
         self.charge_steps(share.size().saturating_mul(2));
-        evaluate(&problem.conditions, share, &self.known, &mut self.told);
+        evaluate(&problem.conditions, share, &self.known, &mut self.implied);
         put(&mut self.live, share.root(), true);
-        mark_live(&problem.conditions, share, &self.told, &mut self.live);
+        mark_live(&problem.conditions, share, &self.implied, &mut self.live);
     }
 
     /// Finds what is known about each share, from what was found about the path.
     pub fn classify(&mut self, problem: &Problem<'_>) {
         for (number, share) in problem.shares.iter().enumerate() {
-            if outcome_at(&self.told, share.root()) != Outcome::Missed {
+            if outcome_at(&self.implied, share.root()) != Outcome::Missed {
                 self.expect(problem, *share);
             }
             let standing = self.standing(*share);
@@ -172,13 +172,13 @@ impl SearchState {
         if is_at(&self.live, place) {
             outcome_of(condition, &self.likely, &self.expected)
         } else {
-            outcome_at(&self.told, place)
+            outcome_at(&self.implied, place)
         }
     }
 
     fn standing(&self, share: ShareFormula) -> Standing {
-        let told = outcome_at(&self.told, share.root());
-        match (told, outcome_at(&self.expected, share.root())) {
+        let implied = outcome_at(&self.implied, share.root());
+        match (implied, outcome_at(&self.expected, share.root())) {
             (Outcome::Missed, _) => Standing::Closed,
             (_, Outcome::Missed) => Standing::Excluded,
             (_, Outcome::Met) => Standing::Sure,
