@@ -13,13 +13,13 @@ use Rattle.filter_tree.specs.declared.tri.Tri.{Tri}
 use Rattle.filter_memo.specs.Atoms.{says, SayTheSame, TellFilters, IsAtomsOf, Locates, LocateAlike}
 use Rattle.filter_memo.specs.Plans.{IsPlanOf, IsPlanFor, ArePlans}
 use Rattle.filter_memo.specs.Branches.{LeadTo}
-use Rattle.filter_memo.specs.Telling.{Told, Tells, numbers_in, IsSettled, AreSettled, IsCell, IsInterval, AreCells, AreNew, AreTold}
+use Rattle.filter_memo.specs.Telling.{TellsThese, Tells, numbers_in, IsSettled, AreSettled, IsCell, IsInterval, AreCells, AreNew, AreEvaluated}
 use Rattle.filter_memo.specs.declared.atoms.Atoms.{Atoms}
 use Rattle.filter_memo.specs.declared.said.Said.{Said}
 use Rattle.filter_memo.specs.declared.branches.Branch.{Branch}
 use Rattle.filter_memo.proofs.ClauseLemmas.{some_values}
 use Rattle.filter_memo.proofs.Branching.{leads_once}
-use Rattle.filter_memo.proofs.Judging.{all_told}
+use Rattle.filter_memo.proofs.Judging.{tells_all}
 use Rattle.filter_memo.proofs.WithinInterval.{no_number}
 
 Tri-set : IsSet Tri
@@ -49,9 +49,9 @@ filters_say parts one other said at_one at_other branches (filter ∷ filters) (
 
 -- atoms of which nothing is kept
 pub fresh : (atoms : Atoms) (filters : List (Option Expr)) → AreSettled atoms.parts.items atoms.all_breakpoints.items
-    → AreNew atoms.cells → AreTold atoms.all_breakpoints.items (length atoms.parts.items)
+    → AreNew atoms.cells → AreEvaluated atoms.all_breakpoints.items (length atoms.parts.items)
     → ArePlans atoms.parts.items filters atoms.plan.branches.items atoms.plan.starts.items → IsAtomsOf filters atoms
-fresh atoms filters settled empty told plans = record {
+fresh atoms filters settled empty evaluated plans = record {
   tell = ∣ record {
     cells = record {
       settled = settled;
@@ -59,7 +59,7 @@ fresh atoms filters settled empty told plans = record {
           subst (λ cell. IsCell atoms.parts.items atoms.all_breakpoints.items cell) (sym (empty.buckets k d within)) tt;
       intervals = λ k d within. no_number atoms.parts.items atoms.all_breakpoints.items _ (empty.intervals k d within);
     };
-    told = λ used. told;
+    evaluated = λ used. evaluated;
     plans = λ used. plans;
   } ∣₁;
 }
@@ -78,7 +78,7 @@ unused atoms filters not_used no_breakpoints no_bucket no_interval = record {
       intervals = subst (λ cells. All (IsInterval atoms.parts.items atoms.all_breakpoints.items) cells)
           (sym no_interval) (All-nil (IsInterval atoms.parts.items atoms.all_breakpoints.items));
     };
-    told = λ used. absurd (never used);
+    evaluated = λ used. absurd (never used);
     plans = λ used. absurd (never used);
   } ∣₁;
 } where
@@ -96,7 +96,7 @@ other_cells old new filters is parts plan all_breakpoints used cells = record {
   changed : TellFilters filters old → TellFilters filters new
   changed tell = record {
     cells = rw (parts, all_breakpoints) (cells tell.cells);
-    told = λ own. rw (parts, all_breakpoints) (tell.told (sym used ∙ own));
+    evaluated = λ own. rw (parts, all_breakpoints) (tell.evaluated (sym used ∙ own));
     plans = λ own. rw (parts, plan) (tell.plans (sym used ∙ own));
   }
 
@@ -107,14 +107,15 @@ locate_alike old new parts used = record {
   before = λ row said is. record { tells = λ own. rw (sym parts) (is.tells (used ∙ own)) };
 }
 
--- values that are told of all atoms
+-- values of all atoms
 pub located : (old new : Atoms) (filters : List (Option Expr)) → IsAtomsOf filters old → new.parts ≡ old.parts
     → new.is_used ≡ old.is_used → (row : List Datum) (said : Said)
     → (AreCells old.parts.items old.all_breakpoints.items old.cells
-    → Told old.parts.items (numbers_in old.all_breakpoints.items) row said) → Locates new row said
-located old new filters is parts used row said told = record {
+    → TellsThese old.parts.items (numbers_in old.all_breakpoints.items) row said) → Locates new row said
+located old new filters is parts used row said values = record {
   tells = λ own. rw parts (∥∥₁_elim is.tell (Tells-prop old.parts.items row said) (λ tell.
-      all_told old.parts.items old.all_breakpoints.items row said (tell.told (sym used ∙ own)) (told tell.cells)));
+      tells_all old.parts.items old.all_breakpoints.items row said (tell.evaluated (sym used ∙ own))
+      (values tell.cells)));
 }
 
 module _ (atoms : Atoms) (filters : List (Option Expr)) (is : IsAtomsOf filters atoms)

@@ -139,8 +139,8 @@ past_added said number tri past = record {
       rw apart refl;
 }
 
-pub told_by_bits : (said : Said) (number : ℕ) → number < 64 → said_within said number ≡ said_at said number
-told_by_bits said number within = let low : nat_lt number 64 ≡ true = lt-ltb number 64 within in rw low refl
+pub said_by_bits : (said : Said) (number : ℕ) → number < 64 → said_within said number ≡ said_at said number
+said_by_bits said number within = let low : nat_lt number 64 ≡ true = lt-ltb number 64 within in rw low refl
 
 pub nothing_past : (said : Said) (number : ℕ) → 64 ≤ number → said_within said number ≡ False
 nothing_past said number past = let high : nat_lt number 64 ≡ false = le-ltb number 64 past in rw high refl

@@ -3,12 +3,12 @@ use Rattle.std.proofs.Common.{◌≡◌, ℕ, zero, suc, List, [], ◌∷◌, �
 use Rattle.std.specs.Prelude.{Option, Some, slice_get}
 use Rattle.filter_tree.specs.declared.tri.Tri.{Tri}
 use Rattle.filter_memo.specs.Clauses.{clause_says}
-use Rattle.filter_memo.specs.Branches.{Leads, IsTold, Goes, Extends, exit_of}
+use Rattle.filter_memo.specs.Branches.{Leads, Ends, Goes, Extends, exit_of}
 use Rattle.filter_memo.specs.declared.clause.Clause.{Clause}
 use Rattle.filter_memo.specs.declared.clause.Values.{Values}
 use Rattle.filter_memo.specs.declared.branches.Exits.{Exits}
 use Rattle.filter_memo.specs.declared.branches.Branch.{Branch}
-use Rattle.filter_memo.specs.declared.branches.Branch.TheVariants.{Told, Test}
+use Rattle.filter_memo.specs.declared.branches.Branch.TheVariants.{End, Test}
 
 -- ---- more branches
 
@@ -43,22 +43,22 @@ some_same one other found p q = cc
 module _ (values : Values) where
   pub leads_on : (old new : List Branch) → Extends old new → (tri : Tri) (at : ℕ) → Leads old values tri at
       → Leads new values tri at
-  leads_on old new more tri at (IsTold _ is) = IsTold at (more.kept at (Told tri) is)
+  leads_on old new more tri at (Ends _ is) = Ends at (more.kept at (End tri) is)
   leads_on old new more tri at (Goes _ clause exits is leads) =
       Goes at clause exits (more.kept at (Test clause exits) is)
       (leads_on old new more tri (exit_of exits (clause_says clause values)) leads)
 
-  pub told_there : (branches : List Branch) (one other : Tri) (at : ℕ) → slice_get branches at ≡ Some (Told one)
+  pub end_there : (branches : List Branch) (one other : Tri) (at : ℕ) → slice_get branches at ≡ Some (End one)
       → Leads branches values other at → one ≡ other
-  told_there branches one other at here (IsTold _ is) = let same : Told one ≡ Told other = cc in cc
-  told_there branches one other at here (Goes _ clause exits is leads) =
-      let same : Told one ≡ Test clause exits = cc in absurd cc
+  end_there branches one other at here (Ends _ is) = let same : End one ≡ End other = cc in cc
+  end_there branches one other at here (Goes _ clause exits is leads) =
+      let same : End one ≡ Test clause exits = cc in absurd cc
 
   pub leads_next : (branches : List Branch) (tri : Tri) (at : ℕ) (clause : Clause) (exits : Exits)
       → slice_get branches at ≡ Some (Test clause exits) → Leads branches values tri at
       → Leads branches values tri (exit_of exits (clause_says clause values))
-  leads_next branches tri at clause exits here (IsTold _ is) =
-      let same : Told tri ≡ Test clause exits = cc in absurd cc
+  leads_next branches tri at clause exits here (Ends _ is) =
+      let same : End tri ≡ Test clause exits = cc in absurd cc
   leads_next branches tri at clause exits here (Goes _ own theirs is leads) =
       let same : Test own theirs ≡ Test clause exits = cc in
       let its : own ≡ clause = cc in
@@ -69,7 +69,7 @@ module _ (values : Values) where
   -- branches lead to only one value
   pub leads_once : (branches : List Branch) (one other : Tri) (at : ℕ) → Leads branches values one at
       → Leads branches values other at → one ≡ other
-  leads_once branches one other at (IsTold _ is) leads = told_there branches one other at is leads
+  leads_once branches one other at (Ends _ is) leads = end_there branches one other at is leads
   leads_once branches one other at (Goes _ clause exits is leads) others =
       leads_once branches one other (exit_of exits (clause_says clause values)) leads
       (leads_next branches other at clause exits is others)
@@ -85,9 +85,9 @@ module _ (values : Values) where
       (exit_of exits (clause_says clause values)) leads)
 
   -- the next branch, as the code computes it
-  pub next_is : (branches : List Branch) (tri : Tri) (at : ℕ) (clause : Clause) (exits : Exits) (told : Tri) (next : ℕ)
-      → slice_get branches at ≡ Some (Test clause exits) → told ≡ clause_says clause values → next ≡ exit_of exits told
+  pub next_is : (branches : List Branch) (tri : Tri) (at : ℕ) (clause : Clause) (exits : Exits) (own : Tri) (next : ℕ)
+      → slice_get branches at ≡ Some (Test clause exits) → own ≡ clause_says clause values → next ≡ exit_of exits own
       → Leads branches values tri at → Leads branches values tri next
-  next_is branches tri at clause exits told next here says is leads =
+  next_is branches tri at clause exits own next here says is leads =
       subst (λ (to : ℕ). Leads branches values tri to) (sym (is ∙ ap (exit_of exits) says))
       (leads_next branches tri at clause exits here leads)

@@ -17,7 +17,7 @@ use Rattle.filter_memo.specs.Bits.{Adds, Joins, IsNothing}
 use Rattle.filter_memo.specs.Intervals.{AreAlike, IsBetween}
 use Rattle.filter_memo.specs.Buckets.{IsBucket}
 use Rattle.filter_memo.specs.declared.interval.Interval.{Interval}
-use Rattle.filter_memo.specs.Telling.{part_at, has_number, told_at, Told, Tells, numbers_in, numbers_of, numbers_at, IsSettled, IsCell, IsInterval, AreCells, AreTold, Judges}
+use Rattle.filter_memo.specs.Telling.{part_at, has_number, numbered_value, TellsThese, Tells, numbers_in, numbers_of, numbers_at, IsSettled, IsCell, IsInterval, AreCells, AreEvaluated, Judges}
 use Rattle.filter_memo.specs.declared.bucket.Bucket.{Bucket}
 use Rattle.filter_memo.specs.declared.said.Said.{Said}
 use Rattle.filter_memo.specs.declared.breakpoints.Breakpoints.{Breakpoints}
@@ -50,12 +50,12 @@ in_parts false true tri = none_or tri
 in_parts false false tri = refl
 
 module _ {A : _} (parts : List (Filter A)) (row : List Datum) where
-  pub none_told : (said : Said) → IsNothing said → Told parts [] row said
-  none_told said nothing = record { each = λ number within. nothing.each number }
+  pub no_values : (said : Said) → IsNothing said → TellsThese parts [] row said
+  no_values said nothing = record { each = λ number within. nothing.each number }
 
   one_more : (own : ℕ) (numbers : List ℕ) (number : ℕ)
-      → (if number == own then or_of (told_at parts numbers row number) (meaning (part_at parts own) row)
-      else told_at parts numbers row number) ≡ told_at parts (own ∷ numbers) row number
+      → (if number == own then or_of (numbered_value parts numbers row number) (meaning (part_at parts own) row)
+      else numbered_value parts numbers row number) ≡ numbered_value parts (own ∷ numbers) row number
   one_more own numbers number =
       elim (cases_eq number own) [
         | inl same ↦
@@ -70,22 +70,22 @@ module _ {A : _} (parts : List (Filter A)) (row : List Datum) where
         either true tri = refl
         either false tri = refl
 
-  pub one_more_told : (own : ℕ) (numbers : List ℕ) (old new : Said) → Told parts numbers row old
-      → Adds old new own (meaning (part_at parts own) row) → Told parts (own ∷ numbers) row new
-  one_more_told own numbers old new told adds = record {
+  pub one_more_value : (own : ℕ) (numbers : List ℕ) (old new : Said) → TellsThese parts numbers row old
+      → Adds old new own (meaning (part_at parts own) row) → TellsThese parts (own ∷ numbers) row new
+  one_more_value own numbers old new values adds = record {
     each = λ number within.
-        let before = told.each number within in
+        let before = values.each number within in
         adds.each number within
         ∙ ap (λ (tri : Tri). if number == own then or_of tri (meaning (part_at parts own) row) else tri) before
         ∙ one_more own numbers number;
   }
 
-  pub both_told : (one other : List ℕ) (first second both : Said) → Told parts one row first
-      → Told parts other row second → Joins first second both → Told parts (one ++ other) row both
-  both_told one other first second both told_one told_other joins = record {
+  pub both_values : (one other : List ℕ) (first second both : Said) → TellsThese parts one row first
+      → TellsThese parts other row second → Joins first second both → TellsThese parts (one ++ other) row both
+  both_values one other first second both values_one values_other joins = record {
     each = λ number within.
-        let left = told_one.each number within in
-        let right = told_other.each number within in
+        let left = values_one.each number within in
+        let right = values_other.each number within in
         let any : has_number (one ++ other) number ≡ (has_number one number || has_number other number) =
         list_any-append (λ own. number == own) one other in
         joins.each number ∙ (rw (left, right)
@@ -109,8 +109,8 @@ module _ {A : _} (parts : List (Filter A)) (all_breakpoints : List Breakpoints) 
       → Judges parts all_breakpoints cells (numbers_at all_breakpoints number) row said
   no_breakpoints number said none nothing = record {
     kept = are;
-    told = subst (λ (numbers : List ℕ). Told parts numbers row said) (sym (ap numbers_of none))
-        (none_told parts row said nothing);
+    values = subst (λ (numbers : List ℕ). TellsThese parts numbers row said) (sym (ap numbers_of none))
+        (no_values parts row said nothing);
   }
 
   module _ (number : ℕ) (breakpoints : Breakpoints) (is : slice_get all_breakpoints number ≡ Some breakpoints)
@@ -133,39 +133,39 @@ module _ {A : _} (parts : List (Filter A)) (all_breakpoints : List Breakpoints) 
         (All-get_or (IsCell parts all_breakpoints) cells.buckets.items index None within are.buckets) in
         record {
           kept = are;
-          told = subst (λ (numbers : List ℕ). Told parts numbers row said) (sym (ap numbers_of is))
+          values = subst (λ (numbers : List ℕ). TellsThese parts numbers row said) (sym (ap numbers_of is))
               (cell breakpoints row is at);
         }
 
-    pub new_cell : (said : Said) → Told parts breakpoints.numbers.items row said
+    pub new_cell : (said : Said) → TellsThese parts breakpoints.numbers.items row said
         → IsCell parts all_breakpoints (Some (record { term = number; bucket = bucket; said = said }))
-    new_cell said told other later found at_later =
+    new_cell said values other later found at_later =
         let same : other ≡ breakpoints = cc in
         let settled : IsSettled parts breakpoints =
         subst (IsSettled parts) (get_or_from_slice_get all_breakpoints number breakpoints breakpoints is)
         (All-get_or (IsSettled parts) all_breakpoints number breakpoints
         (slice_get_within all_breakpoints number breakpoints is) are.settled) in
-        subst (λ (s : Breakpoints). Told parts s.numbers.items later said) (sym same)
+        subst (λ (s : Breakpoints). TellsThese parts s.numbers.items later said) (sym same)
         (settled.same row later bucket said at
-        (subst (λ (s : Breakpoints). IsBucket s.bounds.items (term_value s.term later) bucket) same at_later) told)
+        (subst (λ (s : Breakpoints). IsBucket s.bounds.items (term_value s.term later) bucket) same at_later) values)
 
   module _ (number : ℕ) (breakpoints : Breakpoints) (is : slice_get all_breakpoints number ≡ Some breakpoints) where
     -- values that no cell keeps
-    pub not_kept : (said : Said) → Told parts breakpoints.numbers.items row said
+    pub not_kept : (said : Said) → TellsThese parts breakpoints.numbers.items row said
         → Judges parts all_breakpoints cells (numbers_at all_breakpoints number) row said
-    not_kept said told = record {
+    not_kept said values = record {
       kept = are;
-      told = subst (λ (numbers : List ℕ). Told parts numbers row said) (sym (ap numbers_of is)) told;
+      values = subst (λ (numbers : List ℕ). TellsThese parts numbers row said) (sym (ap numbers_of is)) values;
     }
 
     -- values that a new cell keeps
-    pub kept_now : (said : Said) (new : Cells) → Told parts breakpoints.numbers.items row said
+    pub kept_now : (said : Said) (new : Cells) → TellsThese parts breakpoints.numbers.items row said
         → All (IsCell parts all_breakpoints) new.buckets.items
         → All (IsInterval parts all_breakpoints) new.intervals.items
         → Judges parts all_breakpoints new (numbers_at all_breakpoints number) row said
-    kept_now said new told buckets intervals = record {
+    kept_now said new values buckets intervals = record {
       kept = record { settled = are.settled; buckets = buckets; intervals = intervals };
-      told = subst (λ (numbers : List ℕ). Told parts numbers row said) (sym (ap numbers_of is)) told;
+      values = subst (λ (numbers : List ℕ). TellsThese parts numbers row said) (sym (ap numbers_of is)) values;
     }
 
     -- values that an interval keeps
@@ -181,15 +181,15 @@ module _ {A : _} (parts : List (Filter A)) (all_breakpoints : List Breakpoints) 
         (All-get_or (IsInterval parts all_breakpoints) cells.intervals.items index interval here are.intervals) in
         record {
           kept = are;
-          told = subst (λ (numbers : List ℕ). Told parts numbers row interval.said) (sym (ap numbers_of is))
+          values = subst (λ (numbers : List ℕ). TellsThese parts numbers row interval.said) (sym (ap numbers_of is))
               (held.tells breakpoints row (ap (slice_get all_breakpoints) own ∙ is) within);
         }
 
     pub new_interval : (interval : Interval) → interval.term ≡ number
         → AreAlike breakpoints.bounds.items interval.low interval.high
         → IsBetween (term_value breakpoints.term row) interval.low interval.high
-        → Told parts breakpoints.numbers.items row interval.said → IsInterval parts all_breakpoints interval
-    new_interval interval own alike within told = record {
+        → TellsThese parts breakpoints.numbers.items row interval.said → IsInterval parts all_breakpoints interval
+    new_interval interval own alike within values = record {
       tells = λ other later found within_later.
           let held : slice_get all_breakpoints number ≡ Some other = ap (slice_get all_breakpoints) (sym own) ∙ found in
           let same : other ≡ breakpoints = cc in
@@ -197,18 +197,18 @@ module _ {A : _} (parts : List (Filter A)) (all_breakpoints : List Breakpoints) 
           subst (IsSettled parts) (get_or_from_slice_get all_breakpoints number breakpoints breakpoints is)
           (All-get_or (IsSettled parts) all_breakpoints number breakpoints
           (slice_get_within all_breakpoints number breakpoints is) are.settled) in
-          subst (λ (s : Breakpoints). Told parts s.numbers.items later interval.said) (sym same)
+          subst (λ (s : Breakpoints). TellsThese parts s.numbers.items later interval.said) (sym same)
           (settled.alike row later interval.low interval.high interval.said alike within
           (subst (λ (s : Breakpoints). IsBetween (term_value s.term later) interval.low interval.high) same
-          within_later) told);
+          within_later) values);
     }
 
 -- ---- the breakpoints of all terms
 
-pub told_by_one : (breakpoints : Breakpoints) (all : List Breakpoints) (number : ℕ)
+pub evaluated_by_one : (breakpoints : Breakpoints) (all : List Breakpoints) (number : ℕ)
     → has_number (numbers_in (breakpoints ∷ all)) number
     ≡ (has_number breakpoints.numbers.items number || has_number (numbers_in all) number)
-told_by_one breakpoints all number =
+evaluated_by_one breakpoints all number =
     list_any-append (λ own. number == own) breakpoints.numbers.items (numbers_in all)
 
 -- the numbers of the breakpoints of one more term
@@ -226,16 +226,17 @@ numbers_more all at within =
     ] refl
 
 -- breakpoints that evaluate each filter have the values of all filters
-pub all_told : {A : _} (parts : List (Filter A)) (all_breakpoints : List Breakpoints) (row : List Datum) (said : Said)
-    → AreTold all_breakpoints (length parts) → Told parts (numbers_in all_breakpoints) row said → Tells parts row said
-all_told parts all_breakpoints row said are told = record {
+pub tells_all : {A : _} (parts : List (Filter A)) (all_breakpoints : List Breakpoints) (row : List Datum) (said : Said)
+    → AreEvaluated all_breakpoints (length parts) → TellsThese parts (numbers_in all_breakpoints) row said
+    → Tells parts row said
+tells_all parts all_breakpoints row said are values = record {
   each = λ number within low.
       let has = are.each number within in
-      told.each number low ∙ rw has refl;
+      values.each number low ∙ rw has refl;
 }
 
-pub told_as : (one other : List Breakpoints) (few many : ℕ) → one ≡ other → few ≡ many → AreTold one few
-    → AreTold other many
-told_as one other few many p q are =
-    subst (λ (count : ℕ). AreTold other count) q
-    (subst (λ (all : List Breakpoints). AreTold all few) p are)
+pub evaluated_as : (one other : List Breakpoints) (few many : ℕ) → one ≡ other → few ≡ many → AreEvaluated one few
+    → AreEvaluated other many
+evaluated_as one other few many p q are =
+    subst (λ (count : ℕ). AreEvaluated other count) q
+    (subst (λ (all : List Breakpoints). AreEvaluated all few) p are)

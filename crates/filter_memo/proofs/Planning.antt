@@ -13,7 +13,7 @@ use Rattle.filter_tree.specs.declared.tri.Tri.{Tri}
 use Rattle.filter_tree.specs.declared.tri.Tri.TheVariants.{True, False, Null}
 use Rattle.filter_memo.specs.Clauses.{clause_says, negated_if, IsLiteral, IsEither}
 use Rattle.filter_memo.specs.Plans.{IsClauseOf, IsAdded, IsPlanFor, ArePlans, HasEnds, IsStart, filter_view, filters_view}
-use Rattle.filter_memo.specs.Branches.{Extends, Leads, IsTold, LeadToOne, exit_of, negated, asked, of_null_and, of_null_or, of_first_and, of_first_or}
+use Rattle.filter_memo.specs.Branches.{Extends, Leads, Ends, LeadToOne, exit_of, negated, asked, of_null_and, of_null_or, of_first_and, of_first_or}
 use Rattle.filter_memo.specs.Telling.{part_at}
 use Rattle.filter_memo.specs.declared.clause.Clause.{Clause}
 use Rattle.filter_memo.specs.declared.clause.Values.{Values}
@@ -283,9 +283,9 @@ module _ {A : _} (parts : List (Filter A)) where
   } where
     at_end : (values : Values) → HasEnds old → (tri : Tri)
         → Leads old values tri (exit_of (record { on_true = 0; on_false = 1; on_null = 2 }) tri)
-    at_end values ends True = IsTold 0 ends.is_true
-    at_end values ends False = IsTold 1 ends.is_false
-    at_end values ends Null = IsTold 2 ends.is_null
+    at_end values ends True = Ends 0 ends.is_true
+    at_end values ends False = Ends 1 ends.is_false
+    at_end values ends Null = Ends 2 ends.is_null
 
   pub ends_on : (old new : List Branch) → Extends old new → HasEnds old → HasEnds new
   ends_on old new more ends = record {

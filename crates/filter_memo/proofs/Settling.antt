@@ -16,7 +16,7 @@ use Rattle.filter_tree.proofs.SameLemmas.{same_term_is}
 use Rattle.filter_tree.proofs.Tests.{by_test, both_true}
 use Rattle.filter_memo.specs.Covering.{has, has_constants, covers}
 use Rattle.filter_memo.specs.Buckets.{value_cmp, kind_of}
-use Rattle.filter_memo.specs.Telling.{part_at, told_at, IsSettled}
+use Rattle.filter_memo.specs.Telling.{part_at, numbered_value, IsSettled}
 use Rattle.filter_memo.specs.declared.breakpoints.Breakpoints.{Breakpoints}
 use Rattle.filter_memo.proofs.Alike.{atom_alike}
 use Rattle.filter_memo.proofs.Sides.{same_side}
@@ -57,13 +57,13 @@ module _ {A : _} (term : Term) (bounds : List (Value A)) (one other : List Datum
   filter_says (Is test part) h = ap (is_of test) (filter_says part h)
 
   -- covered filters have the same values for both rows
-  told_alike : {B : _} (parts : List (Filter B)) (numbers : List ℕ)
+  values_alike : {B : _} (parts : List (Filter B)) (numbers : List ℕ)
       → All (λ number. covers term bounds (part_at parts number) ≡ true) numbers → (number : ℕ)
-      → told_at parts numbers one number ≡ told_at parts numbers other number
-  told_alike parts [] covered number = refl
-  told_alike parts (own ∷ numbers) covered number =
-      let later : told_at parts numbers one number ≡ told_at parts numbers other number =
-      told_alike parts numbers
+      → numbered_value parts numbers one number ≡ numbered_value parts numbers other number
+  values_alike parts [] covered number = refl
+  values_alike parts (own ∷ numbers) covered number =
+      let later : numbered_value parts numbers one number ≡ numbered_value parts numbers other number =
+      values_alike parts numbers
       (All-tail (λ n. covers term bounds (part_at parts n) ≡ true) own numbers covered) number in
       by_test (number == own)
       (λ here.
@@ -80,15 +80,15 @@ pub breakpoints_settled : {B : _} (breakpoints : Breakpoints) (parts : List (Fil
     breakpoints.numbers.items
     → IsSettled parts breakpoints
 breakpoints_settled breakpoints parts sorted covered = record {
-  same = λ one other bucket said at_one at_other told. record {
-    each = λ number within. told.each number within
-        ∙ told_alike breakpoints.term breakpoints.bounds.items one other (sym at_one.kind ∙ at_other.kind)
+  same = λ one other bucket said at_one at_other values. record {
+    each = λ number within. values.each number within
+        ∙ values_alike breakpoints.term breakpoints.bounds.items one other (sym at_one.kind ∙ at_other.kind)
         (same_side breakpoints.bounds.items sorted (term_value breakpoints.term one) (term_value breakpoints.term other)
         bucket at_one at_other) parts breakpoints.numbers.items covered number;
   };
-  alike = λ one other low high said alike at_one at_other told. record {
-    each = λ number within. told.each number within
-        ∙ told_alike breakpoints.term breakpoints.bounds.items one other
+  alike = λ one other low high said alike at_one at_other values. record {
+    each = λ number within. values.each number within
+        ∙ values_alike breakpoints.term breakpoints.bounds.items one other
         (ap kind_of at_one.is ∙ sym (ap kind_of at_other.is))
         (same_interval breakpoints.bounds.items (term_value breakpoints.term one) (term_value breakpoints.term other)
         low high alike at_one at_other) parts breakpoints.numbers.items covered number;

@@ -6,7 +6,7 @@ use Rattle.filter_tree.specs.Datum.{Datum}
 use Rattle.filter_tree.specs.Expr.{Expr, meaning}
 use Rattle.filter_tree.specs.declared.tri.Tri.{Tri}
 use Rattle.filter_memo.specs.Plans.{ArePlans}
-use Rattle.filter_memo.specs.Telling.{Tells, AreTold, AreCells}
+use Rattle.filter_memo.specs.Telling.{Tells, AreEvaluated, AreCells}
 use Rattle.filter_memo.specs.declared.atoms.Atoms.{Atoms}
 use Rattle.filter_memo.specs.declared.said.Said.{Said}
 
@@ -21,7 +21,7 @@ SayTheSame filters one other = All (λ filter. says one filter ≡ says other fi
 -- what is kept of the atoms is right, and if they are used, their values determine those of the filters
 pub record TellFilters (filters : List (Option Expr)) (atoms : Atoms) : Type 0 where
   pub cells : AreCells atoms.parts.items atoms.all_breakpoints.items atoms.cells
-  pub told : atoms.is_used ≡ true → AreTold atoms.all_breakpoints.items (length atoms.parts.items)
+  pub evaluated : atoms.is_used ≡ true → AreEvaluated atoms.all_breakpoints.items (length atoms.parts.items)
   pub plans : atoms.is_used ≡ true
       → ArePlans atoms.parts.items filters atoms.plan.branches.items atoms.plan.starts.items
 

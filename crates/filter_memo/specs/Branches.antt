@@ -12,7 +12,7 @@ use Rattle.filter_memo.specs.declared.clause.Values.{Values}
 use Rattle.filter_memo.specs.declared.said.Said.{Said}
 use Rattle.filter_memo.specs.declared.branches.Exits.{Exits}
 use Rattle.filter_memo.specs.declared.branches.Branch.{Branch}
-use Rattle.filter_memo.specs.declared.branches.Branch.TheVariants.{Told, Test}
+use Rattle.filter_memo.specs.declared.branches.Branch.TheVariants.{End, Test}
 
 -- ---- exits
 
@@ -55,7 +55,7 @@ of_first_or exits second other = record { on_true = exits.on_true; on_false = se
 
 -- the branches lead from this one to a truth value
 pub data Leads (branches : List Branch) (values : Values) (tri : Tri) : ℕ → Type 0 where
-  IsTold : (at : ℕ) → slice_get branches at ≡ Some (Told tri) → Leads branches values tri at
+  Ends : (at : ℕ) → slice_get branches at ≡ Some (End tri) → Leads branches values tri at
   Goes : (at : ℕ) (clause : Clause) (exits : Exits) → slice_get branches at ≡ Some (Test clause exits)
       → Leads branches values tri (exit_of exits (clause_says clause values)) → Leads branches values tri at
 

@@ -19,7 +19,7 @@ use Rattle.filter_memo.specs.declared.clause.Values.{Values}
 use Rattle.filter_memo.specs.declared.said.Said.{Said}
 use Rattle.filter_memo.specs.declared.branches.Exits.{Exits}
 use Rattle.filter_memo.specs.declared.branches.Branch.{Branch}
-use Rattle.filter_memo.specs.declared.branches.Branch.TheVariants.{Told}
+use Rattle.filter_memo.specs.declared.branches.Branch.TheVariants.{End}
 
 -- for each row, the clause has the value of the filter, or of its negation
 pub record IsClauseOf {A : _} (parts : List (Filter A)) (filter : Expr) (is_negated : Bool) (clause : Clause) :
@@ -47,11 +47,11 @@ IsPlanFor parts branches (Some filter) start = IsPlanOf parts branches filter st
 abbrev pub ArePlans : {A : _} → List (Filter A) → List (Option Expr) → List Branch → List ℕ → Type 0
 ArePlans parts filters branches starts = AllZip (IsPlanFor parts branches) filters starts
 
--- the first three branches are truth values
+-- the first three branches are ends, one for each truth value
 pub record HasEnds (branches : List Branch) : Type 0 where
-  pub is_true : slice_get branches 0 ≡ Some (Told True)
-  pub is_false : slice_get branches 1 ≡ Some (Told False)
-  pub is_null : slice_get branches 2 ≡ Some (Told Null)
+  pub is_true : slice_get branches 0 ≡ Some (End True)
+  pub is_false : slice_get branches 1 ≡ Some (End False)
+  pub is_null : slice_get branches 2 ≡ Some (End Null)
 
 -- the branches of one more filter are added
 pub record IsStart {A : _} (parts : List (Filter A)) (filter : Option Expr) (old new : List Branch) (start : ℕ) :

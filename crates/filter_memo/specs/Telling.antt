@@ -31,12 +31,14 @@ abbrev pub has_number : List ℕ → ℕ → Bool
 has_number numbers number = list_any (λ own. number == own) numbers
 
 -- the value of a filter that has one of these numbers; the others are false
-abbrev pub told_at : {A : _} → List (Filter A) → List ℕ → List Datum → ℕ → Tri
-told_at parts numbers row number = if has_number numbers number then meaning (part_at parts number) row else False
+abbrev pub numbered_value : {A : _} → List (Filter A) → List ℕ → List Datum → ℕ → Tri
+numbered_value parts numbers row number =
+    if has_number numbers number then meaning (part_at parts number) row else False
 
 -- the values of the filters with these numbers
-pub record Told {A : _} (parts : List (Filter A)) (numbers : List ℕ) (row : List Datum) (said : Said) : Type 0 where
-  pub each : (number : ℕ) → number < 64 → said_at said number ≡ told_at parts numbers row number
+pub record TellsThese {A : _} (parts : List (Filter A)) (numbers : List ℕ) (row : List Datum) (said : Said) :
+    Type 0 where
+  pub each : (number : ℕ) → number < 64 → said_at said number ≡ numbered_value parts numbers row number
 
 -- the values of all filters
 pub record Tells {A : _} (parts : List (Filter A)) (row : List Datum) (said : Said) : Type 0 where
@@ -57,7 +59,7 @@ abbrev pub numbers_at : List Breakpoints → ℕ → List ℕ
 numbers_at all_breakpoints at = numbers_of (slice_get all_breakpoints at)
 
 -- the breakpoints evaluate each filter whose number is below `count`
-pub record AreTold (all_breakpoints : List Breakpoints) (count : ℕ) : Type 0 where
+pub record AreEvaluated (all_breakpoints : List Breakpoints) (count : ℕ) : Type 0 where
   pub each : (number : ℕ) → number < count → has_number (numbers_in all_breakpoints) number ≡ true
 
 -- the filters have the same values for rows in the same bucket, and for rows in an interval that no constant divides
@@ -65,10 +67,10 @@ pub record IsSettled {A : _} (parts : List (Filter A)) (breakpoints : Breakpoint
   pub same : (one other : List Datum) (bucket : Bucket) (said : Said)
       → IsBucket breakpoints.bounds.items (term_value breakpoints.term one) bucket
       → IsBucket breakpoints.bounds.items (term_value breakpoints.term other) bucket
-      → Told parts breakpoints.numbers.items one said → Told parts breakpoints.numbers.items other said
+      → TellsThese parts breakpoints.numbers.items one said → TellsThese parts breakpoints.numbers.items other said
   pub alike : (one other : List Datum) (low high : ℤ) (said : Said) → AreAlike breakpoints.bounds.items low high
       → IsBetween (term_value breakpoints.term one) low high → IsBetween (term_value breakpoints.term other) low high
-      → Told parts breakpoints.numbers.items one said → Told parts breakpoints.numbers.items other said
+      → TellsThese parts breakpoints.numbers.items one said → TellsThese parts breakpoints.numbers.items other said
 
 abbrev pub AreSettled : {A : _} → List (Filter A) → List Breakpoints → Type 0
 AreSettled parts all_breakpoints = All (IsSettled parts) all_breakpoints
@@ -81,7 +83,7 @@ IsCell parts all_breakpoints None = Unit {0}
 IsCell parts all_breakpoints (Some cell) = (breakpoints : Breakpoints) (row : List Datum)
     → slice_get all_breakpoints cell.term ≡ Some breakpoints
     → IsBucket breakpoints.bounds.items (term_value breakpoints.term row) cell.bucket
-    → Told parts breakpoints.numbers.items row cell.said
+    → TellsThese parts breakpoints.numbers.items row cell.said
 
 -- the interval has the values of the filters for each row whose term is in it
 pub record IsInterval {A : _} (parts : List (Filter A)) (all_breakpoints : List Breakpoints) (interval : Interval) :
@@ -89,7 +91,7 @@ pub record IsInterval {A : _} (parts : List (Filter A)) (all_breakpoints : List 
   pub tells : (breakpoints : Breakpoints) (row : List Datum)
       → slice_get all_breakpoints interval.term ≡ Some breakpoints
       → IsBetween (term_value breakpoints.term row) interval.low interval.high
-      → Told parts breakpoints.numbers.items row interval.said
+      → TellsThese parts breakpoints.numbers.items row interval.said
 
 pub record AreCells {A : _} (parts : List (Filter A)) (all_breakpoints : List Breakpoints) (cells : Cells) :
     Type 0 where
@@ -106,4 +108,4 @@ pub record AreNew (cells : Cells) : Type 0 where
 pub record Judges {A : _} (parts : List (Filter A)) (all_breakpoints : List Breakpoints) (cells : Cells)
     (numbers : List ℕ) (row : List Datum) (said : Said) : Type 0 where
   pub kept : AreCells parts all_breakpoints cells
-  pub told : Told parts numbers row said
+  pub values : TellsThese parts numbers row said

@@ -3,7 +3,7 @@
 ghost use Rattle.std.specs.Prelude.{◌≡◌, true, All, IfOk, IsTrue};
 ghost use Rattle.filter_memo.specs.Covering as covering;
 ghost use Rattle.filter_memo.specs.Telling as spec;
-ghost use Rattle.filter_memo.specs.Telling.{AreSettled, AreTold, IsSettled, numbers_in, part_at};
+ghost use Rattle.filter_memo.specs.Telling.{AreSettled, AreEvaluated, IsSettled, numbers_in, part_at};
 
 use crate::bounds::bounds_of;
 use crate::breakpoints::{Breakpoints, width};
@@ -143,23 +143,23 @@ fn has_number(numbers: &[usize], number: usize) -> bool
 }
 
 /// Whether the breakpoints of some term evaluate the atom with this number.
-#[tactic(auto, using(crate::proofs::Judging::told_by_one))]
-fn is_told(all_breakpoints: &[Breakpoints], number: usize) -> bool
+#[tactic(auto, using(crate::proofs::Judging::evaluated_by_one))]
+fn is_evaluated(all_breakpoints: &[Breakpoints], number: usize) -> bool
     ensures { result ≡ spec.has_number (numbers_in all_breakpoints.now) number }
 {
     match all_breakpoints {
         [] => false,
         [breakpoints, rest @ ..] => has_number(&breakpoints.numbers, number)
-            || is_told(rest, number),
+            || is_evaluated(rest, number),
     }
 }
 
 /// Whether the breakpoints evaluate all atoms with numbers below `count`.
-pub fn are_told(all_breakpoints: &[Breakpoints], count: usize) -> bool
-    ensures { IsTrue result → AreTold all_breakpoints.now count }
+pub fn are_evaluated(all_breakpoints: &[Breakpoints], count: usize) -> bool
+    ensures { IsTrue result → AreEvaluated all_breakpoints.now count }
 {
     for number in 0..count {
-        if !is_told(all_breakpoints, number) {
+        if !is_evaluated(all_breakpoints, number) {
             return false;
         }
     }

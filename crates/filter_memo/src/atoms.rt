@@ -6,7 +6,7 @@ ghost use Rattle.filter_tree.specs.Expr.{Expr, meaning};
 ghost use Rattle.filter_memo.specs.Atoms as spec;
 ghost use Rattle.filter_memo.specs.Plans.{filters_view};
 
-use crate::all_breakpoints::{all_breakpoints_of, are_told, cell_counts};
+use crate::all_breakpoints::{all_breakpoints_of, are_evaluated, cell_counts};
 use crate::branches::run;
 use crate::breakpoints::Breakpoints;
 use crate::parts::parts_of;
@@ -62,7 +62,7 @@ impl Atoms {
             return Ok(Atoms::unused(alloc));
         };
         let all_breakpoints = all_breakpoints_of(alloc, &parts)?;
-        if !are_told(&all_breakpoints, parts.len()) {
+        if !are_evaluated(&all_breakpoints, parts.len()) {
             return Ok(Atoms::unused(alloc));
         }
         let counts = cell_counts(&all_breakpoints);

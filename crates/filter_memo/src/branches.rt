@@ -18,10 +18,10 @@ pub struct Exits {
     pub on_null: usize,
 }
 
-/// One branch: a truth value, or a test of a clause whose value leads to another branch.
+/// One branch: the end, which is a truth value, or a test of a clause whose value leads to another branch.
 #[derive(Clone, Copy, Debug, PartialEq, Eq)]
 pub enum Branch {
-    Told(Tri),
+    End(Tri),
     Test(Clause, Exits),
 }
 
@@ -144,7 +144,7 @@ pub fn run(branches: &[Branch], start: usize, said: Said) -> Option<Tri>
     let mut at = start;
     for _ in 0..branches.len() {
         match branch_at(branches, at)? {
-            Branch::Told(tri) => return Some(*tri),
+            Branch::End(tri) => return Some(*tri),
             Branch::Test(clause, exits) => at = exits.of(clause.tell(values)),
         }
     }

@@ -154,9 +154,9 @@ fn ends_of(alloc: Global) -> Result<Vec<Branch>, AllocError>
     ensures { IfOk result (λ branches. spec.HasEnds branches.items) }
 {
     let mut branches = Vec::new(alloc);
-    branches.push(Branch::Told(Tri::True))?;
-    branches.push(Branch::Told(Tri::False))?;
-    branches.push(Branch::Told(Tri::Null))?;
+    branches.push(Branch::End(Tri::True))?;
+    branches.push(Branch::End(Tri::False))?;
+    branches.push(Branch::End(Tri::Null))?;
     Ok(branches)
 }
 

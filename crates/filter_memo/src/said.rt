@@ -87,7 +87,7 @@ impl Said {
     }
 
     /// The value of the number, which is false from 64 on.
-    #[tactic(auto, using(crate::proofs::BitLemmas::told_by_bits, crate::proofs::BitLemmas::nothing_past))]
+    #[tactic(auto, using(crate::proofs::BitLemmas::said_by_bits, crate::proofs::BitLemmas::nothing_past))]
     pub fn at(self, number: usize) -> Tri
         ensures { result ≡ said_within self number }
     {

@@ -5,7 +5,7 @@ ghost use Rattle.std.specs.Option.{option_copied};
 ghost use Rattle.filter_tree.specs.Datum.{Known, Number};
 ghost use Rattle.filter_tree.specs.Expr.{meaning, term_value};
 ghost use Rattle.filter_memo.specs.Intervals.{AreAlike, HasNoNumber};
-ghost use Rattle.filter_memo.specs.Telling.{AreCells, AreNew, Judges, Told, numbers_at, numbers_in, part_at};
+ghost use Rattle.filter_memo.specs.Telling.{AreCells, AreNew, Judges, TellsThese, numbers_at, numbers_in, part_at};
 
 use crate::breakpoints::{Breakpoints, bucket_in, number_in};
 use crate::bucket::{Bucket, number_of};
@@ -85,9 +85,9 @@ fn part_says(parts: &[Filter], number: usize, row: &Row) -> Tri
 }
 
 /// The values of the atoms with these numbers.
-#[tactic(auto, using(crate::proofs::Judging::none_told, crate::proofs::Judging::one_more_told))]
+#[tactic(auto, using(crate::proofs::Judging::no_values, crate::proofs::Judging::one_more_value))]
 fn judge(parts: &[Filter], numbers: &[usize], row: &Row) -> Said
-    ensures { Told parts.now numbers.now row.now result }
+    ensures { TellsThese parts.now numbers.now row.now result }
 {
     match numbers {
         [] => Said::nothing(),

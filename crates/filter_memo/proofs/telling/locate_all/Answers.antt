@@ -1,6 +1,6 @@
 use Rattle.std.proofs.Common.{ℕ, List, take, sym, subst}
-use Rattle.filter_memo.specs.Telling.{Told, numbers_in, numbers_at}
-use Rattle.filter_memo.proofs.Judging.{both_told, numbers_more}
+use Rattle.filter_memo.specs.Telling.{TellsThese, numbers_in, numbers_at}
+use Rattle.filter_memo.proofs.Judging.{both_values, numbers_more}
 use Rattle.filter_memo.proofs.telling.locate_all.Goals as goal
 
 pub loop-number-preserved : goal.loop-number-preserved
@@ -9,10 +9,11 @@ loop-number-preserved c = λ are.
     let now = c.locate.ensures before.kept in
     record {
       kept = now.kept;
-      told = subst (λ (numbers : List ℕ). Told c.args.parts.now numbers c.args.row.now c.join-said.result)
+      values = subst (λ (numbers : List ℕ). TellsThese c.args.parts.now numbers c.args.row.now c.join-said.result)
           (sym (numbers_more c.args.all_breakpoints.now c.loop-number.number c.loop-number-test.true))
-          (both_told c.args.parts.now c.args.row.now (numbers_in (take c.loop-number.number c.args.all_breakpoints.now))
+          (both_values c.args.parts.now c.args.row.now
+          (numbers_in (take c.loop-number.number c.args.all_breakpoints.now))
           (numbers_at c.args.all_breakpoints.now c.loop-number.number) c.loop-number.said c.locate.result
           c.join-said.result
-          before.told now.told c.join-said.ensures);
+          before.values now.values c.join-said.ensures);
     }

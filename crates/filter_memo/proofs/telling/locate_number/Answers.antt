@@ -3,7 +3,7 @@ use Rattle.std.specs.Prelude.{slice_get}
 use Rattle.std.proofs.lemmas.List.Elements.{All-set}
 use Rattle.filter_tree.specs.Expr.{term_value}
 use Rattle.filter_memo.specs.Intervals.{IsBetween}
-use Rattle.filter_memo.specs.Telling.{Told, IsInterval}
+use Rattle.filter_memo.specs.Telling.{TellsThese, IsInterval}
 use Rattle.filter_memo.specs.declared.interval.Interval.{Interval}
 use Rattle.filter_memo.specs.declared.said.Said.{Said}
 use Rattle.filter_memo.proofs.Judging.{interval_before, new_interval, kept_now}
@@ -27,8 +27,8 @@ returns-in-Some c = λ are.
 
 pub returns-then-index-len : goal.returns-then-index-len
 returns-then-index-len c = λ are.
-    let told : Told c.args.parts.now c.args.breakpoints.now.numbers.items c.args.row.now c.judge-said.result =
-    subst (λ (numbers : List ℕ). Told c.args.parts.now numbers c.args.row.now c.judge-said.result)
+    let values : TellsThese c.args.parts.now c.args.breakpoints.now.numbers.items c.args.row.now c.judge-said.result =
+    subst (λ (numbers : List ℕ). TellsThese c.args.parts.now numbers c.args.row.now c.judge-said.result)
     c.deref-2.ensures.value c.judge-said.ensures in
     let from : c.in-Some-interval_of.interval.low ≤ℤ c.args.value = search rules in
     let upto : c.args.value ≤ℤ c.in-Some-interval_of.interval.high = search rules in
@@ -40,10 +40,10 @@ returns-then-index-len c = λ are.
       upto = upto;
     } in
     kept_now c.args.parts.now c.args.all_breakpoints.now c.args.cells.now are c.args.row.now c.args.number
-    c.args.breakpoints.now c.requires.breakpoints c.judge-said.result _ told are.buckets
+    c.args.breakpoints.now c.requires.breakpoints c.judge-said.result _ values are.buckets
     (All-set (IsInterval c.args.parts.now c.args.all_breakpoints.now) c.args.cells.now.intervals.items _ _
     (new_interval c.args.parts.now c.args.all_breakpoints.now c.args.cells.now are c.args.row.now c.args.number
     c.args.breakpoints.now c.requires.breakpoints c.in-Some-interval_of.interval c.in-Some-interval_of.ensures.term
     c.in-Some-interval_of.ensures.alike within
-    (subst (λ (said : Said). Told c.args.parts.now c.args.breakpoints.now.numbers.items c.args.row.now said)
-    (sym c.in-Some-interval_of.ensures.said) told)) are.intervals)
+    (subst (λ (said : Said). TellsThese c.args.parts.now c.args.breakpoints.now.numbers.items c.args.row.now said)
+    (sym c.in-Some-interval_of.ensures.said) values)) are.intervals)

@@ -31,4 +31,4 @@ returns-clause-located c = λ filters is.
     (subst (λ (all : List Breakpoints). AreCells c.deref.result.now all c.args.self.now.cells
     → Judges c.deref.result.now all c.locate_all.new.cells (numbers_in all) c.args.row.now c.locate_all.result)
     c.deref-2.ensures.value c.locate_all.ensures) in
-    located c.args.self.now _ filters is refl refl c.args.row.now c.locate_all.result (λ cells. (judged cells).told)
+    located c.args.self.now _ filters is refl refl c.args.row.now c.locate_all.result (λ cells. (judged cells).values)

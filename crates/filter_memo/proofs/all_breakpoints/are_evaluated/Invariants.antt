@@ -1,6 +1,6 @@
 use Rattle.std.proofs.Common.{◌≡◌, ℕ, ◌<◌, true}
 use Rattle.filter_memo.specs.Telling.{has_number, numbers_in}
-use Rattle.filter_memo.proofs.all_breakpoints.are_told.Given as goal
+use Rattle.filter_memo.proofs.all_breakpoints.are_evaluated.Given as goal
 
 -- the breakpoints evaluate the filters so far
 abbrev pub invariant-loop-number : goal.invariant-loop-number
