@@ -84,11 +84,11 @@ branches_of atom nodes (T.NeverNull i) rest e = absurd cc
 
 pub none_at_fault : (before : Stream) (error : CertError) → before ≡ fault error → HasNoTree before error
 none_at_fault before error e =
-    subst (λ stream. HasNoTree stream error) (sym e) (record { none = never_none; told = λ found h. cc })
+    subst (λ stream. HasNoTree stream error) (sym e) (record { none = never_none; is_fault = λ found h. cc })
 
 pub none_at_end : (before : Stream) → before ≡ over → HasNoTree before Ended
 none_at_end before e =
-    subst (λ stream. HasNoTree stream Ended) (sym e) (record { none = never_none; told = λ found h. absurd cc })
+    subst (λ stream. HasNoTree stream Ended) (sym e) (record { none = never_none; is_fault = λ found h. absurd cc })
 
 nodes_are : (before after : Stream) (nodes : List Node) → before ≡ all_led nodes after
     → before.nodes ≡ nodes ++ after.nodes
@@ -102,7 +102,7 @@ pub first_lacks : (atom : ℕ) (before : Stream) (error : CertError) → HasNoTr
 first_lacks atom before error lacks = record {
   none = λ tree rest e. let b = branches_of atom before.nodes tree rest e in
       lacks.none b.if_true (preorder b.if_false ++ (preorder b.if_null ++ rest)) b.parts;
-  told = lacks.told;
+  is_fault = lacks.is_fault;
 }
 
 pub second_lacks : (atom : ℕ) (t : Tree) (before after : Stream) (error : CertError)
@@ -114,7 +114,7 @@ second_lacks atom t before after error grown lacks = record {
       let left = same_front t b.if_true after.nodes (preorder b.if_false ++ (preorder b.if_null ++ rest))
       (sym (nodes_are before after (preorder t) grown) ∙ b.parts) in
       lacks.none b.if_false (preorder b.if_null ++ rest) left.1;
-  told = λ found h. lacks.told found (sym (end_is before after (preorder t) grown) ∙ h);
+  is_fault = λ found h. lacks.is_fault found (sym (end_is before after (preorder t) grown) ∙ h);
 }
 
 pub third_lacks : (atom : ℕ) (t f : Tree) (before middle after : Stream) (error : CertError)
@@ -128,7 +128,7 @@ third_lacks atom t f before middle after error grown more lacks = record {
       let next = same_front f b.if_false after.nodes (preorder b.if_null ++ rest)
       (sym (nodes_are middle after (preorder f) more) ∙ left.1) in
       lacks.none b.if_null rest next.1;
-  told = λ found h. lacks.told found
+  is_fault = λ found h. lacks.is_fault found
       (sym (end_is middle after (preorder f) more) ∙ sym (end_is before middle (preorder t) grown) ∙ h);
 }
 
@@ -175,7 +175,7 @@ rest_is (Err other) stream after t error are grown ends = let same : Err other �
 lack_is : (expected : Result Tree CertError) (stream : Stream) (error : CertError) → AreNodesOf expected stream
     → HasNoTree stream error → expected ≡ Err error
 lack_is (Ok found) stream error are lacks = absurd (lacks.none found [] (are.0 ∙ sym (append-nil (preorder found))))
-lack_is (Err other) stream error are lacks = ap Err (lacks.told other are)
+lack_is (Err other) stream error are lacks = ap Err (lacks.is_fault other are)
 
 -- an error other than out of memory reports itself
 tells : (expected : Result Tree CertError) (error : CertError) → (error ≢ OutOfMemory → expected ≡ Err error)

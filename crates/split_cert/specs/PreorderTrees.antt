@@ -15,7 +15,7 @@ all_led nodes stream = record { nodes = nodes ++ stream.nodes; end = stream.end 
 -- the nodes of no tree come first in the stream, and the error is the stream's fault, if it has one
 pub record HasNoTree (stream : Stream) (error : CertError) : Type 0 where
   pub none : (tree : Tree) (rest : List Node) → stream.nodes ≡ preorder tree ++ rest → ⊥
-  pub told : (fault : CertError) → stream.end ≡ Err fault → fault ≡ error
+  pub is_fault : (fault : CertError) → stream.end ≡ Err fault → fault ≡ error
 
 -- the result is the tree whose nodes come first, and what comes after them is left; `view` gives a value as plain data.
 -- Or there is no such tree, or memory ran out
