@@ -19,7 +19,7 @@ use Rattle.shard_checker.specs.Refusal.{Subject, subject_of, later, earliest, em
 use Rattle.shard_checker.specs.Candidates.{is_empty}
 use Rattle.shard_checker.specs.declared.error.CheckError.{CheckError}
 use Rattle.shard_checker.specs.declared.error.CheckError.TheVariants.{NotEmpty}
-use Rattle.shard_checker.proofs.EmptyLemmas.{told_by_values}
+use Rattle.shard_checker.proofs.EmptyLemmas.{decided_by_values}
 use Rattle.filter_tree.proofs.Tests.{by_test}
 
 -- two tests that always give the same answer
@@ -94,7 +94,7 @@ pub first_by_any : (test : EmptyTest) → IsEmptiness test
     → (number : ℕ) (table : Table) (shares : List ShareOf) (tree : Tree)
     → first_refusal is_empty number table shares tree ≡ first_refusal test number table shares tree
 first_by_any test tells number table shares tree =
-    refusal_alike is_empty test (tests_alike is_empty test told_by_values tells)
+    refusal_alike is_empty test (tests_alike is_empty test decided_by_values tells)
     (subject_of number table.columns shares) tree [] 0
 
 pub sharding_by_any : (test : EmptyTest) → IsEmptiness test
@@ -102,7 +102,7 @@ pub sharding_by_any : (test : EmptyTest) → IsEmptiness test
     → sharding_refusal is_empty catalog plan trees ≡ sharding_refusal test catalog plan trees
 sharding_by_any test tells catalog plan trees =
     ap (λ x. earliest (catalog_refusal catalog) (earliest (count_refusal (length catalog.tables) (length trees)) x))
-    (certificates_alike is_empty test (tests_alike is_empty test told_by_values tells) plan catalog.subscriptions 0
+    (certificates_alike is_empty test (tests_alike is_empty test decided_by_values tells) plan catalog.subscriptions 0
     catalog.tables trees)
 
 pub none_by_any : (catalog : CatalogOf Expr) (plan : PlanOf) (trees : List Tree)

@@ -440,11 +440,11 @@ term_remains columns atoms term path among =
     turned true false false = refl
 
 -- a candidate of the term remains exactly if the term has a value left
-pub told_by_candidates : (columns : List Column) (atoms : List AtomOf) (terms : List Term) (number : ℕ) (term : Term)
+pub decided_by_candidates : (columns : List Column) (atoms : List AtomOf) (terms : List Term) (number : ℕ) (term : Term)
     (path : Path) → AreAmong atoms path → slice_get terms number ≡ Some term
     → list_any (λ candidate. remains path candidate && same_term candidate.term term)
     (candidates_in columns atoms terms) ≡ not (is_empty columns term path)
-told_by_candidates columns atoms terms number term path among there =
+decided_by_candidates columns atoms terms number term path among there =
     any_flat_map (λ candidate. remains path candidate && same_term candidate.term term) (candidates_of columns atoms)
     terms
     ∙ any_alike

@@ -122,17 +122,17 @@ unpublished subscriptions number (publication ∷ publications) error h =
 
 -- ---- what is recorded of old rows
 
-pub record IsUntold (number : ℕ) (tables : List Table) (error : CheckError) : Type 0 where
+pub record LacksIdentity (number : ℕ) (tables : List Table) (error : CheckError) : Type 0 where
   pub place : ℕ
   pub is : error ≡ NoIdentity (number + place)
   pub table : Table
   pub there : slice_get tables place ≡ Some table
-  pub untold : tells_rows_apart table ≡ false
+  pub not_apart : tells_rows_apart table ≡ false
 
-pub first_untold : (number : ℕ) (tables : List Table) (error : CheckError) → identity_refusal number tables ≡ Some error
-    → IsUntold number tables error
-first_untold number [] error h = absurd cc
-first_untold number (table ∷ tables) error h =
+pub first_lacks_identity : (number : ℕ) (tables : List Table) (error : CheckError)
+    → identity_refusal number tables ≡ Some error → LacksIdentity number tables error
+first_lacks_identity number [] error h = absurd cc
+first_lacks_identity number (table ∷ tables) error h =
     by_first (table_refusal number table) (identity_refusal (number + 1) tables) error h
     (λ here. let both = failed (tells_rows_apart table) (NoIdentity number) error here in
     record {
@@ -140,17 +140,17 @@ first_untold number (table ∷ tables) error h =
       is = both.1 ∙ ap NoIdentity (sym (at_zero number));
       table = table;
       there = refl;
-      untold =
+      not_apart =
           both.0;
     })
-    (λ there. let rest = first_untold (number + 1) tables error there in
+    (λ there. let rest = first_lacks_identity (number + 1) tables error there in
     record {
       place = suc rest.place;
       is = rest.is ∙ ap NoIdentity (sym (at_next number rest.place));
       table =
           rest.table;
       there = rest.there;
-      untold = rest.untold;
+      not_apart = rest.not_apart;
     })
 
 -- ---- which tables are carried, and which columns filters name

@@ -4,7 +4,7 @@ use Rattle.std.specs.Prelude.{Option, Some, None, slice_set}
 use Rattle.std.specs.Vec.{with_items}
 use Rattle.std.proofs.lemmas.List.{length-set, set-get_or, map-set, with_items_is}
 use Rattle.filter_tree.specs.declared.mask.Mask.{Mask}
-use Rattle.shard_checker.specs.Claims.{claim_refusal, claims_refusal, steps_at, refusal_due, Begin, Records, AreTold, AreWaiting}
+use Rattle.shard_checker.specs.Claims.{claim_refusal, claims_refusal, steps_at, refusal_due, Begin, Records, AreDetermined, AreWaiting}
 use Rattle.shard_checker.specs.LeafMasks.{all_at, at_leaf}
 use Rattle.shard_checker.specs.Refusal.{Subject, earliest}
 use Rattle.shard_checker.specs.Steps.{mask_in, masks_of}
@@ -80,18 +80,18 @@ begun_waiting known claims begins =
       later = λ leaf past within. begins.atoms leaf within;
     }
 
--- ---- the steps are told
+-- ---- the steps are determined
 
-pub told_due : (subject : Subject) (formulas : Formulas) (old new : Claims) → length old.list.items ≤ 64
-    → new.list ≡ old.list → new.atoms ≡ old.atoms → AreTold formulas.steps.list.items new
+pub due_if_determined : (subject : Subject) (formulas : Formulas) (old new : Claims) → length old.list.items ≤ 64
+    → new.list ≡ old.list → new.atoms ≡ old.atoms → AreDetermined formulas.steps.list.items new
     → claims_refusal subject formulas.roots.items (λ leaf. all_at leaf new.steps.items) 0 new.list.items
     ≡ refusal_due subject formulas old
-told_due subject formulas old new room same_list same_atoms told =
+due_if_determined subject formulas old new room same_list same_atoms determined =
     ap (λ list. claims_refusal subject formulas.roots.items (λ leaf. all_at leaf new.steps.items) 0 list.items)
     same_list
     ∙ same_at_leaves subject formulas.roots.items (λ leaf. all_at leaf new.steps.items) (steps_at formulas old) 0
     old.list.items
-    (λ leaf after before. told.each leaf (omega (arith, before, room))
+    (λ leaf after before. determined.each leaf (omega (arith, before, room))
     ∙ ap (λ atoms. masks_of (all_at leaf atoms.items) [] formulas.steps.list.items) same_atoms)
 
 -- ---- a set is put at later leaves

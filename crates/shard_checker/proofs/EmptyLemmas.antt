@@ -6,7 +6,7 @@ use Rattle.filter_tree.specs.Paths.{Path}
 use Rattle.filter_tree.specs.declared.filter.Term.{Term}
 use Rattle.filter_tree.specs.declared.table.Column.{Column}
 use Rattle.shard_checker.specs.Domain.{kind_at}
-use Rattle.shard_checker.specs.Emptiness.{IsLeft, HasValue, IsEmptiness, CanBeTold}
+use Rattle.shard_checker.specs.Emptiness.{IsLeft, HasValue, IsEmptiness, EmptinessIsDecidable}
 use Rattle.shard_checker.specs.Facts.{is_said_null, is_present}
 use Rattle.shard_checker.specs.Candidates.{has_value, is_empty}
 use Rattle.shard_checker.proofs.ExistingLemmas.{value_exists}
@@ -66,8 +66,8 @@ has_not_empty columns term path has = left_not_empty columns term path has.value
 
 -- ---- the law
 
-pub told_by_values : IsEmptiness is_empty
-told_by_values = record {
+pub decided_by_values : IsEmptiness is_empty
+decided_by_values = record {
   empty = λ columns term path. (
     (λ empty has. clash (is_empty columns term path) empty (has_not_empty columns term path has)),
     (λ none. by_test (is_empty columns term path) (λ empty. empty)
@@ -76,5 +76,5 @@ told_by_values = record {
   others = λ columns term path. (not_empty_has columns term path, has_not_empty columns term path);
 }
 
-pub can_be_told : CanBeTold
-can_be_told = record { test = is_empty; tells = told_by_values }
+pub is_decidable : EmptinessIsDecidable
+is_decidable = record { test = is_empty; tells = decided_by_values }

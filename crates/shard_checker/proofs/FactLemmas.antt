@@ -46,18 +46,18 @@ said_null : (atom : AtomOf) (value : Datum) → said_of atom value ≡ Null → 
 said_null atom Missing h = refl
 said_null atom (Known value) h = absurd (known_tri (holds_of atom (Some value)) (sym (said_known atom value) ∙ h))
 
-told_null : (atom : AtomOf) (value : Datum) (found : Tri) → said_of atom value ≡ found → tells_null atom found ≡ true
-    → value ≡ Missing
-told_null (Cmp term op constant) value Null said tells = said_null (Cmp term op constant) value said
-told_null (Cmp term op constant) value found said tells = absurd cc
-told_null (In term constants) value Null said tells = said_null (In term constants) value said
-told_null (In term constants) value found said tells = absurd cc
-told_null (Between term low high) value Null said tells = said_null (Between term low high) value said
-told_null (Between term low high) value found said tells = absurd cc
-told_null (IsNull column) Missing found said tells = refl
-told_null (IsNull column) (Known value) True said tells = absurd cc
-told_null (IsNull column) (Known value) found said tells = absurd cc
-told_null (Distinct term constant) value found said tells = absurd cc
+tells_of_null : (atom : AtomOf) (value : Datum) (found : Tri) → said_of atom value ≡ found
+    → tells_null atom found ≡ true → value ≡ Missing
+tells_of_null (Cmp term op constant) value Null said tells = said_null (Cmp term op constant) value said
+tells_of_null (Cmp term op constant) value found said tells = absurd cc
+tells_of_null (In term constants) value Null said tells = said_null (In term constants) value said
+tells_of_null (In term constants) value found said tells = absurd cc
+tells_of_null (Between term low high) value Null said tells = said_null (Between term low high) value said
+tells_of_null (Between term low high) value found said tells = absurd cc
+tells_of_null (IsNull column) Missing found said tells = refl
+tells_of_null (IsNull column) (Known value) True said tells = absurd cc
+tells_of_null (IsNull column) (Known value) found said tells = absurd cc
+tells_of_null (Distinct term constant) value found said tells = absurd cc
 
 never_present : (atom : AtomOf) → tells_present atom (said_of atom Missing) ≡ true → ⊥
 never_present (Cmp term op constant) h = cc
@@ -97,7 +97,7 @@ says_null_is : (row : List Datum) (column : ℕ) (atom : AtomOf) (value : Tri) �
 says_null_is row column atom value meant says =
     let both = both_true (tells_null atom value) (column_of (term_of atom) == column) says in
     subst (λ k. value_at row k ≡ Missing) (same_number (column_of (term_of atom)) column both.1)
-    (term_missing (term_of atom) row (told_null atom (term_value (term_of atom) row) value meant both.0))
+    (term_missing (term_of atom) row (tells_of_null atom (term_value (term_of atom) row) value meant both.0))
 
 pub null_is : (row : List Datum) (column : ℕ) (path : Path) → Agrees row path → is_said_null column path ≡ true
     → value_at row column ≡ Missing

@@ -41,12 +41,12 @@ kept_before atoms masks (step ∷ steps) part h =
     kept_before atoms (masks ++ step_mask atoms masks step ∷ []) steps part (omega arith)
     ∙ get_or_append_left masks (step_mask atoms masks step ∷ []) _ part h
 
-told_from : (atoms masks : List Mask) (steps : List FormulaNode) (start : ℕ) → length masks ≡ start
+settled_from : (atoms masks : List Mask) (steps : List FormulaNode) (start : ℕ) → length masks ≡ start
     → ((number : ℕ) (step : FormulaNode) → slice_get steps number ≡ Some step → PartsBefore (start + number) step)
     → (number : ℕ) (step : FormulaNode) → slice_get steps number ≡ Some step
     → mask_in (masks_of atoms masks steps) (start + number) ≡ step_mask atoms (masks_of atoms masks steps) step
-told_from atoms masks [] start long ordered number step h = absurd cc
-told_from atoms masks (first ∷ steps) start long ordered zero step h =
+settled_from atoms masks [] start long ordered number step h = absurd cc
+settled_from atoms masks (first ∷ steps) start long ordered zero step h =
     let more : List Mask = masks ++ step_mask atoms masks first ∷ [] in
     let longer : length more ≡ length masks + 1 = length-append masks (step_mask atoms masks first ∷ []) in
     let is : first ≡ step = same_Some first step h in
@@ -56,25 +56,25 @@ told_from atoms masks (first ∷ steps) start long ordered zero step h =
     ∙ sym (step_same atoms (masks_of atoms more steps) masks (start + 0) step
     (λ part before. kept_before atoms masks (first ∷ steps) part (omega (arith, before, long)))
     (ordered 0 step h))
-told_from atoms masks (first ∷ steps) start long ordered (suc number) step h =
+settled_from atoms masks (first ∷ steps) start long ordered (suc number) step h =
     let more : List Mask = masks ++ step_mask atoms masks first ∷ [] in
     let longer : length more ≡ length masks + 1 = length-append masks (step_mask atoms masks first ∷ []) in
     let next : start + 1 + number ≡ start + suc number = omega arith in
     ap (mask_in (masks_of atoms more steps)) (sym next)
-    ∙ told_from atoms more steps (start + 1) (omega arith)
+    ∙ settled_from atoms more steps (start + 1) (omega arith)
     (λ later found at.
     let same : start + suc later ≡ start + 1 + later = omega arith in
     subst (λ (k : ℕ). PartsBefore k found) same (ordered (suc later) found at))
     number step h
 
 -- the sets of steps that follow one after another are those that follow from the sets of their parts
-pub told_settled : (atoms : List Mask) (steps : List FormulaNode) → IsOrdered steps
+pub masks_settled : (atoms : List Mask) (steps : List FormulaNode) → IsOrdered steps
     → IsSettled steps atoms (masks_of atoms [] steps)
-told_settled atoms steps ordered = record {
+masks_settled atoms steps ordered = record {
   each = λ number step h.
       let same : 0 + number ≡ number = omega arith in
       subst (λ (k : ℕ). mask_in (masks_of atoms [] steps) k ≡ step_mask atoms (masks_of atoms [] steps) step) same
-      (told_from atoms [] steps 0 refl
+      (settled_from atoms [] steps 0 refl
       (λ later found at.
       let here : later ≡ 0 + later = omega arith in
       subst (λ (k : ℕ). PartsBefore k found) here (ordered.each later found at))

@@ -73,13 +73,13 @@ same_expr_self (And f g) = ap (λ b. b && same_expr g g) (same_expr_self f) ∙ 
 same_expr_self (Or f g) = ap (λ b. b && same_expr g g) (same_expr_self f) ∙ same_expr_self g
 same_expr_self (Is t f) = ap (λ b. b && same_expr f f) (same_test_self t) ∙ same_expr_self f
 
-told_apart : (f g : Expr) (b : Bool) → same_expr f g ≡ b → Dec (f ≡ g)
-told_apart f g true h = yes (same_expr_is f g h)
-told_apart f g false h =
+same_or_not : (f g : Expr) (b : Bool) → same_expr f g ≡ b → Dec (f ≡ g)
+same_or_not f g true h = yes (same_expr_is f g h)
+same_or_not f g false h =
     no (λ e. let same : same_expr f g ≡ true = subst (λ x. same_expr f x ≡ true) e (same_expr_self f) in cc)
 
 Expr-discrete : Discrete Expr
-Expr-discrete f g = told_apart f g (same_expr f g) refl
+Expr-discrete f g = same_or_not f g (same_expr f g) refl
 
 Expr-set : IsSet Expr
 Expr-set = hedberg Expr-discrete

@@ -23,7 +23,7 @@ use Rattle.shard_checker.specs.declared.error.CheckError.TheVariants.{PublishMis
 use Rattle.shard_checker.proofs.Testing.{clash}
 use Rattle.shard_checker.proofs.TruthLemmas.{failed, certificate_wrong}
 use Rattle.table_changes.proofs.TableLemmas.{at_zero, zero_more, at_next}
-use Rattle.shard_checker.proofs.CatalogReasons.{by_first, unpublished, first_untold, EntryIsWrong, publications_wrong}
+use Rattle.shard_checker.proofs.CatalogReasons.{by_first, unpublished, first_lacks_identity, EntryIsWrong, publications_wrong}
 
 -- ---- certificates
 
@@ -161,10 +161,10 @@ publishing_wrong catalog plan trees error h =
 identity_wrong : (catalog : CatalogOf Expr) (plan : PlanOf) (trees : List Tree) (error : CheckError)
     → identity_refusal 0 catalog.tables ≡ Some error → ShardingIsWrong catalog plan trees error
 identity_wrong catalog plan trees error h =
-    let found = first_untold 0 catalog.tables error h in
+    let found = first_lacks_identity 0 catalog.tables error h in
     let is : error ≡ NoIdentity found.place = found.is ∙ ap NoIdentity (zero_more found.place) in
     subst (ShardingIsWrong catalog plan trees) (sym is)
-    (record { table = found.table; there = found.there; untold = found.untold })
+    (record { table = found.table; there = found.there; not_apart = found.not_apart })
 
 -- a subscription names the publication with this number, and an entry of it is wrong
 entry_is_wrong : (catalog : CatalogOf Expr) (plan : PlanOf) (trees : List Tree) (error : CheckError) (number : ℕ)

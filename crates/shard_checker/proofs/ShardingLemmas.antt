@@ -80,16 +80,16 @@ all_publish subscriptions number (publication ∷ publications) h (suc k) taken 
 
 -- ---- what is recorded of old rows
 
-told : (b : Bool) (error : CheckError) → (if b then None else Some error) ≡ None → b ≡ true
-told true error h = refl
-told false error h = absurd cc
+is_true : (b : Bool) (error : CheckError) → (if b then None else Some error) ≡ None → b ≡ true
+is_true true error h = refl
+is_true false error h = absurd cc
 
 all_identified : (number : ℕ) (tables : List Table) → identity_refusal number tables ≡ None → (k : ℕ)
     → IfSome (slice_get tables k) (λ table. tells_rows_apart table ≡ true)
 all_identified number [] h k = tt
 all_identified number (table ∷ tables) h zero =
     let both = none_first (table_refusal number table) (identity_refusal (number + 1) tables) h in
-    told (tells_rows_apart table) (NoIdentity number) both.0
+    is_true (tells_rows_apart table) (NoIdentity number) both.0
 all_identified number (table ∷ tables) h (suc k) =
     let both = none_first (table_refusal number table) (identity_refusal (number + 1) tables) h in
     all_identified (number + 1) tables both.1 k

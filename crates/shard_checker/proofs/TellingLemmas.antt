@@ -30,38 +30,38 @@ use Rattle.shard_checker.proofs.TruthLemmas.{certificate_wrong}
 -- ---- a certificate
 
 module _ (number : ℕ) (table : Table) (shares : List ShareOf) (tree : Tree) where
-  pub told_sound : (result : Result (Unit {0}) CheckError)
+  pub checked_sound : (result : Result (Unit {0}) CheckError)
       → Checks (first_refusal is_empty number table shares tree) result
       → OnOk result ((row : List Datum) → IsTyped table.columns row → HasOneOwner shares row)
-  told_sound (Ok value) h = certificate_sound number table shares tree h
-  told_sound (Err error) h = tt
+  checked_sound (Ok value) h = certificate_sound number table shares tree h
+  checked_sound (Err error) h = tt
 
-  pub told_wrong : (result : Result (Unit {0}) CheckError)
+  pub checked_wrong : (result : Result (Unit {0}) CheckError)
       → Checks (first_refusal is_empty number table shares tree) result
       → IfRefused result (CertificateIsWrong number table shares tree)
-  told_wrong (Ok value) h = tt
-  told_wrong (Err error) h = λ other. certificate_wrong number table shares tree error (h other)
+  checked_wrong (Ok value) h = tt
+  checked_wrong (Err error) h = λ other. certificate_wrong number table shares tree error (h other)
 
 -- ---- a sharding: an error that was found is passed on
 
 module _ {A B : Type 0} (catalog : CatalogOf Expr) (plan : PlanOf) (trees : List Tree) (given : Result A CheckError)
-    (found : CheckError) (result : Result B CheckError) (fails : given ≡ Err found) (told : result ≡ Err found) where
+    (found : CheckError) (result : Result B CheckError) (fails : given ≡ Err found) (again : result ≡ Err found) where
   pub refused_by_any : Checks (sharding_refusal is_empty catalog plan trees) given → (test : EmptyTest)
       → IsEmptiness test → Checks (sharding_refusal test catalog plan trees) result
   refused_by_any h test tells =
       subst (λ (refusal : Option CheckError). Checks refusal result) (sharding_by_any test tells catalog plan trees)
-      (subst (Checks (sharding_refusal is_empty catalog plan trees)) (sym told)
+      (subst (Checks (sharding_refusal is_empty catalog plan trees)) (sym again)
       (subst (Checks (sharding_refusal is_empty catalog plan trees)) fails h))
 
   pub refused_memory : (Fact : Type 0) → NeedsMemoryOnlyIf OutOfMemory Fact given
       → NeedsMemoryOnlyIf OutOfMemory Fact result
   refused_memory Fact h =
-      subst (NeedsMemoryOnlyIf OutOfMemory Fact) (sym told) (subst (NeedsMemoryOnlyIf OutOfMemory Fact) fails h)
+      subst (NeedsMemoryOnlyIf OutOfMemory Fact) (sym again) (subst (NeedsMemoryOnlyIf OutOfMemory Fact) fails h)
 
   pub refused_wrong : AllCarryKnown catalog → Checks (sharding_refusal is_empty catalog plan trees) given
       → IfRefused result (ShardingIsWrong catalog plan trees)
   refused_wrong known h =
       let refused : found ≢ OutOfMemory → sharding_refusal is_empty catalog plan trees ≡ Some found =
       subst (Checks (sharding_refusal is_empty catalog plan trees)) fails h in
-      subst (λ (result : Result B CheckError). IfRefused result (ShardingIsWrong catalog plan trees)) (sym told)
+      subst (λ (result : Result B CheckError). IfRefused result (ShardingIsWrong catalog plan trees)) (sym again)
       (λ other. sharding_wrong catalog plan trees found known (refused other))

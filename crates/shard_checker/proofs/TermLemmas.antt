@@ -20,7 +20,7 @@ use Rattle.shard_checker.specs.declared.known.Undo.{Undo}
 use Rattle.shard_checker.specs.declared.known.Known.{Known}
 use Rattle.shard_checker.specs.declared.claims.Claims.{Claims}
 use Rattle.shard_checker.specs.declared.remaining.Remaining.{Remaining}
-use Rattle.shard_checker.proofs.CandidateLemmas.{told_by_candidates}
+use Rattle.shard_checker.proofs.CandidateLemmas.{decided_by_candidates}
 use Rattle.shard_checker.proofs.CandidateSetLemmas.{zip_read, meeting_is}
 use Rattle.shard_checker.proofs.Testing.{by_either}
 
@@ -43,19 +43,20 @@ module _ (subject : Subject) (formulas : Formulas) (sets : CandidateSets) (known
     (claims : Claims) (remaining : Remaining) (path : Path)
     (agrees : AgreesWithPath subject formulas sets known claims remaining path) (number : ℕ) (set : BitSet)
     (at : set ≡ get_or sets.of_terms.items number set) (meets : Bool)
-    (told : TellsMeeting remaining.places set meets) where
-  told_of : (found : Option Term) → slice_get subject.terms number ≡ found
+    (tells : TellsMeeting remaining.places set meets) where
+  decided_of : (found : Option Term) → slice_get subject.terms number ≡ found
       → IfSome found (λ term. not meets ≡ is_empty subject.columns term path)
-  told_of None there = tt
-  told_of (Some term) there =
+  decided_of None there = tt
+  decided_of (Some term) there =
       let is = zip_read (IsTermSet (candidates_of_table subject)) subject.terms sets.of_terms.items number term set
       agrees.prepared.tried.of_terms there at in
       ap not
       (meeting_is (candidates_of_table subject) (remains path) (λ candidate. same_term candidate.term term)
-      remaining.places set meets agrees.left.places is told
-      ∙ told_by_candidates subject.columns subject.atoms subject.terms number term path
+      remaining.places set meets agrees.left.places is tells
+      ∙ decided_by_candidates subject.columns subject.atoms subject.terms number term path
       (record { each = path_among subject.atoms [] known.undos.items path agrees.knows.undos }) there)
       ∙ not_not (is_empty subject.columns term path)
 
-  pub empty_is_told : IfSome (slice_get subject.terms number) (λ term. not meets ≡ is_empty subject.columns term path)
-  empty_is_told = told_of (slice_get subject.terms number) refl
+  pub empty_is_decided : IfSome (slice_get subject.terms number)
+      (λ term. not meets ≡ is_empty subject.columns term path)
+  empty_is_decided = decided_of (slice_get subject.terms number) refl

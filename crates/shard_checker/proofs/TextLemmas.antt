@@ -146,7 +146,7 @@ fault_is_no_refusal texts (Err (Check refusal)) error Fact e h =
 -- all texts are read, and the check of their trees found an error
 module _ {A B : Type 0} (catalog : CatalogOf Expr) (plan : PlanOf) (texts : List (List ℕ))
     (given : Result A CheckError) (found : CheckError) (result : Result B TextError) (fails : given ≡ Err found)
-    (told : result ≡ Err (Check found)) where
+    (refused : result ≡ Err (Check found)) where
   found_by : Checks (sharding_refusal is_empty catalog plan (trees_in texts)) given → found ≢ OutOfMemory
       → sharding_refusal is_empty catalog plan (trees_in texts) ≡ Some found
   found_by h = subst (Checks (sharding_refusal is_empty catalog plan (trees_in texts))) fails h
@@ -158,20 +158,20 @@ module _ {A B : Type 0} (catalog : CatalogOf Expr) (plan : PlanOf) (texts : List
       let one : ChecksText {A = B} (text_refusal test catalog plan texts) (Err (Check found)) =
       λ other. text_by_any test tells catalog plan texts (Some found) read
       (found_by h (λ same. other (ap Check same))) in
-      subst (ChecksText (text_refusal test catalog plan texts)) (sym told) one
+      subst (ChecksText (text_refusal test catalog plan texts)) (sym refused) one
 
   pub refused_read : text_fault 1 texts ≡ None → AreRead texts result
-  refused_read read = subst (AreRead texts) (sym told) read
+  refused_read read = subst (AreRead texts) (sym refused) read
 
   pub refused_wrong : AllCarryKnown catalog → Checks (sharding_refusal is_empty catalog plan (trees_in texts)) given
       → IfTextRefused result (ShardingIsWrong catalog plan (trees_in texts))
   refused_wrong known h =
       subst (λ (result : Result B TextError). IfTextRefused result (ShardingIsWrong catalog plan (trees_in texts)))
-      (sym told)
+      (sym refused)
       (λ other. sharding_wrong catalog plan (trees_in texts) found known (found_by h other))
 
   pub refused_memory : NeedsMemoryOnlyIf OutOfMemory (declared_refusal catalog ≡ None) given
       → TextNeedsMemoryOnlyIf (declared_refusal catalog ≡ None) result
   refused_memory h =
-      subst (TextNeedsMemoryOnlyIf (declared_refusal catalog ≡ None)) (sym told)
+      subst (TextNeedsMemoryOnlyIf (declared_refusal catalog ≡ None)) (sym refused)
       (subst (NeedsMemoryOnlyIf OutOfMemory (declared_refusal catalog ≡ None)) fails h)

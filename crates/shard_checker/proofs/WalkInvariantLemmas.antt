@@ -37,7 +37,7 @@ use Rattle.shard_checker.specs.declared.steps.FormulaNode.{FormulaNode}
 use Rattle.shard_checker.proofs.ClaimLemmas.{one_more, recorded_waiting}
 use Rattle.shard_checker.proofs.CandidateSetLemmas.{zip_read}
 use Rattle.shard_checker.proofs.KnownLemmas.{known_learned, known_taken_back, was_named}
-use Rattle.shard_checker.proofs.MaskLemmas.{filter_mask, told_settled}
+use Rattle.shard_checker.proofs.MaskLemmas.{filter_mask, masks_settled}
 use Rattle.shard_checker.proofs.RemainingLemmas.{more_known, less_known}
 use Rattle.shard_checker.proofs.OnwardLemmas.{onward_true, onward_false, onward_null}
 
@@ -258,7 +258,7 @@ module _ (subject : Subject) (formulas : Formulas) (sets : CandidateSets) (known
       subst (λ (found : List Mask). IsSettled formulas.steps.list.items found
       (steps_at formulas old (length old.list.items)))
       (ready.waiting.later (length old.list.items) (omega arith) room ∙ ready.knows.masks)
-      (told_settled (all_at (length old.list.items) old.atoms.items) formulas.steps.list.items
+      (masks_settled (all_at (length old.list.items) old.atoms.items) formulas.steps.list.items
       ready.prepared.compiled.ordered)
 
   pub added_due : refusal_due subject formulas new

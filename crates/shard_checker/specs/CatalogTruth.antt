@@ -34,7 +34,7 @@ pub record DoesNotPublish (catalog : CatalogOf Expr) (number : ℕ) (operation :
 pub record TellsNoRows (catalog : CatalogOf Expr) (number : ℕ) : Type 0 where
   pub table : Table
   pub there : slice_get catalog.tables number ≡ Some table
-  pub untold : tells_rows_apart table ≡ false
+  pub not_apart : tells_rows_apart table ≡ false
 
 -- the filter of an entry for the table with this number, which exists, names a column of it that the table's replica
 -- identity lacks

@@ -61,7 +61,7 @@ pub record Records (old new : Claims) (number : ℕ) (mask : Mask) : Type 0 wher
       → all_at leaf new.atoms.items ≡ slice_set (all_at leaf old.atoms.items) number mask
 
 -- at each leaf, it was determined what the steps may be
-pub record AreTold (steps : List FormulaNode) (claims : Claims) : Type 0 where
+pub record AreDetermined (steps : List FormulaNode) (claims : Claims) : Type 0 where
   pub each : (leaf : ℕ) → leaf < 64
       → all_at leaf claims.steps.items ≡ masks_of (all_at leaf claims.atoms.items) [] steps
 

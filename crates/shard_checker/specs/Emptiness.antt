@@ -38,6 +38,6 @@ pub record IsEmptiness (test : EmptyTest) : Type 0 where
       ↔ HasValue columns term path
 
 -- such a test exists
-pub record CanBeTold : Type 0 where
+pub record EmptinessIsDecidable : Type 0 where
   pub test : EmptyTest
   pub tells : IsEmptiness test

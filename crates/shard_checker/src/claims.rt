@@ -94,7 +94,7 @@ impl Claims {
     fn tell(&mut self, steps: &[FormulaNode]) -> Result<(), AllocError>
         ensures list { self.new.list ≡ self.old.list }
         ensures atoms { self.new.atoms ≡ self.old.atoms }
-        ensures steps { OnOk result (spec.AreTold steps.now self.new) }
+        ensures steps { OnOk result (spec.AreDetermined steps.now self.new) }
     {
         tell_steps(steps, &self.atoms, &mut self.steps)
     }
@@ -145,7 +145,7 @@ fn check_claim<A: Allocator>(
 }
 
 /// Checks the claims from what each step may be at their leaves.
-fn check_told<A: Allocator>(
+fn check_each<A: Allocator>(
     subject: &Subject<'_, A>,
     masks: &[LeafMasks],
     claims: &[Claim],
@@ -169,6 +169,6 @@ pub fn check_claims<A: Allocator>(
     ensures { Checks (spec.refusal_due (subject_view subject.now) subject.now.formulas.now claims.old) result }
 {
     claims.tell(&subject.formulas.steps.list)?;
-    check_told(subject, &claims.steps, &claims.list)?;
+    check_each(subject, &claims.steps, &claims.list)?;
     Ok(())
 }

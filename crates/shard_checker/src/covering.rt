@@ -16,7 +16,7 @@ use std::alloc::Global;
 
 fn check_identity(number: TableNumber, table: &Table) -> Result<(), CheckError>
     ensures exact { Finds (spec.table_refusal number table.now) result }
-    ensures told { IfErr result (λ error. error ≢ CheckError.OutOfMemory) }
+    ensures needs_no_memory { IfErr result (λ error. error ≢ CheckError.OutOfMemory) }
 {
     if tells_rows_apart(table) {
         Ok(())
@@ -28,7 +28,7 @@ fn check_identity(number: TableNumber, table: &Table) -> Result<(), CheckError>
 /// Checks that each table's replica identity distinguishes its rows.
 pub fn check_identities(tables: &[Table]) -> Result<(), CheckError>
     ensures exact { Finds (spec.identity_refusal 0 tables.now) result }
-    ensures told { IfErr result (λ error. error ≢ CheckError.OutOfMemory) }
+    ensures needs_no_memory { IfErr result (λ error. error ≢ CheckError.OutOfMemory) }
 {
     for (number, table) in tables.iter().enumerate() {
         check_identity(number, table)?;

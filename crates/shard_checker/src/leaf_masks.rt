@@ -181,8 +181,8 @@ pub fn tell_steps(
 {
     masks.clear();
     for step in steps {
-        let told = masks_of_step(*step, atoms, masks);
-        masks.push(told)?;
+        let masks_of_leaves = masks_of_step(*step, atoms, masks);
+        masks.push(masks_of_leaves)?;
     }
     Ok(())
 }

@@ -36,7 +36,7 @@ mod walk;
 pub use checked::Checked;
 pub use domain::{Range, kind_at, range_of};
 pub use error::{CheckError, Operation};
-pub use laws::emptiness_can_be_told;
+pub use laws::emptiness_is_decidable;
 pub use numbering::{numbered_atoms, numbered_terms};
 pub use one_table::check_one;
 pub use sharding::{check, shares_in};

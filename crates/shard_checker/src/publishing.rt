@@ -47,7 +47,7 @@ fn missing_operation(publishes: Operations) -> Option<Operation>
 
 fn check_operations(publication: usize, publishes: Operations) -> Result<(), CheckError>
     ensures exact { Finds (spec.missing_by publication (spec.missing_operation publishes)) result }
-    ensures told { IfErr result (λ error. error ≢ CheckError.OutOfMemory) }
+    ensures needs_no_memory { IfErr result (λ error. error ≢ CheckError.OutOfMemory) }
 {
     match missing_operation(publishes) {
         None => Ok(()),
@@ -64,7 +64,7 @@ fn check_publication(
     publishes: Operations,
 ) -> Result<(), CheckError>
     ensures exact { Finds (spec.publication_refusal subscriptions.now number publishes) result }
-    ensures told { IfErr result (λ error. error ≢ CheckError.OutOfMemory) }
+    ensures needs_no_memory { IfErr result (λ error. error ≢ CheckError.OutOfMemory) }
 {
     if is_taken(subscriptions, number) {
         check_operations(number, publishes)
@@ -79,7 +79,7 @@ pub fn check_publishing(
     publications: &[Publication],
 ) -> Result<(), CheckError>
     ensures exact { Finds (spec.publishing_refusal subscriptions.now 0 (map publication_view publications.now)) result }
-    ensures told { IfErr result (λ error. error ≢ CheckError.OutOfMemory) }
+    ensures needs_no_memory { IfErr result (λ error. error ≢ CheckError.OutOfMemory) }
 {
     for (number, publication) in publications.iter().enumerate() {
         check_publication(subscriptions, number, publication.publishes)?;

@@ -3,7 +3,7 @@ use Rattle.shard_checker.specs.CandidateSets.{IsTermSet}
 use Rattle.shard_checker.specs.WalkInvariants.{candidates_of_table}
 use Rattle.filter_tree.specs.Paths.{path_view}
 use Rattle.shard_checker.specs.Refusal.{subject_view}
-use Rattle.shard_checker.proofs.TermLemmas.{empty_is_told}
+use Rattle.shard_checker.proofs.TermLemmas.{empty_is_decided}
 use Rattle.shard_checker.proofs.CandidateSetLemmas.{zip_long}
 use Rattle.shard_checker.proofs.nodes.is_empty.Goals as goal
 
@@ -20,6 +20,6 @@ pub returns : goal.returns
 returns g c =
     let subject = c.args.subject.now in
     let walk = c.args.walk.now in
-    empty_is_told (subject_view subject) subject.formulas.now subject.candidates.now walk.known
+    empty_is_decided (subject_view subject) subject.formulas.now subject.candidates.now walk.known
     walk.claims walk.remaining (path_view walk.path.items) c.requires.agrees c.args.number c.index-places.result.now
     c.index-places.ensures c.meets.result c.meets.ensures

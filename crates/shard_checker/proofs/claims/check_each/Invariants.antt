@@ -2,7 +2,7 @@ use Rattle.std.proofs.Common.{◌≡◌, drop}
 use Rattle.shard_checker.specs.Claims.{claims_refusal}
 use Rattle.shard_checker.specs.LeafMasks.{all_at}
 use Rattle.shard_checker.specs.Refusal.{subject_view}
-use Rattle.shard_checker.proofs.claims.check_told.Given as goal
+use Rattle.shard_checker.proofs.claims.check_each.Given as goal
 
 -- the refusal of the claims that are left is that of all
 abbrev pub invariant-loop-leaf : goal.invariant-loop-leaf
