@@ -41,7 +41,7 @@ use Rattle.stream_laws.specs.Following.{raised_by_message, own_key, Follows}
 use Rattle.stream_laws.proofs.CommandSteps.{Steps}
 use Rattle.stream_laws.proofs.Inside.{Inside, good, relations_safe, staged_inside, stays_inside}
 use Rattle.stream_laws.proofs.KeyLemmas.{row_of, key_at_table, tells_identity}
-use Rattle.stream_laws.proofs.RelationSteps.{shape_for, told_same}
+use Rattle.stream_laws.proofs.RelationSteps.{shape_for, announced_same}
 use Rattle.stream_laws.proofs.Safety.{Safe, safe_heard, safe_both}
 use Rattle.stream_laws.proofs.SwapLemmas.{Found, put, IsDone, passing_some}
 use Rattle.filter_tree.proofs.Tests.{by_test}
@@ -221,7 +221,7 @@ module _ (checked : CheckedOf) (transactions : List Transaction) (subscriber beg
       → Safe (Follows checked transactions subscriber) position (message ∷ []) machine
       (λ at next. (at ≡ position) × Inside checked subscriber begin outer (mark_one sent number) after next)
   ends_with sent machine message change found long inside is made finds stays =
-      let flag = told_same sent number (flag_there sent long) in
+      let flag = announced_same sent number (flag_there sent long) in
       safe_heard (Follows checked transactions subscriber)
       (λ at next. (at ≡ position) × Inside checked subscriber begin outer (mark_one sent number) after next)
       position message [] machine (record machine { work = with_found machine.work (oid_of number) found })

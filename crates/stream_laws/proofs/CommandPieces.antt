@@ -98,8 +98,8 @@ record IsWrittenNumber (n : ℕ) (written : List ℕ) : Type 0 where
 
 number_written : (n : ℕ) → n < 2 ^ 32 → IsWrittenNumber n (digits 16 true n)
 number_written n small =
-    let told = digits_is_IsNumeral 16 true (omega arith) (omega arith) n (omega arith) in
-    record { is = record { numeral = told.0; few = digits_short n small }; value = told.1 }
+    let is = digits_is_IsNumeral 16 true (omega arith) (omega arith) n (omega arith) in
+    record { is = record { numeral = is.0; few = digits_short n small }; value = is.1 }
 
 pub hex_digits : (n : ℕ) → n < 2 ^ 32 → list_all is_ascii_hexdigit (digits 16 true n) ≡ true
 hex_digits n small = all_hex (digits 16 true n) (number_written n small).is.numeral.1

@@ -338,22 +338,22 @@ module _ (checked : CheckedOf) (transactions : List Transaction) (published : Is
 pub stopped_follow : StoppedFollow
 stopped_follow checked transactions published number old between middle new follows opens moves sent bytes piece
     others error first feeds stops =
-    by_told (sub_fault error) refl (stops_come_at_once between middle new bytes piece error feeds stops).machine
+    by_fault (sub_fault error) refl (stops_come_at_once between middle new bytes piece error feeds stops).machine
   where
-    by_told : (fault : Option SubFault) → sub_fault error ≡ fault
+    by_fault : (fault : Option SubFault) → sub_fault error ≡ fault
         → StopsFor fault (fed_heard between (bytes ++ piece)) (fed_cut between (bytes ++ piece)) (sub_machine between)
         (sub_machine new)
         → (sub_fault error ≡ None) × StopsFollowing checked transactions number (sub_machine old).position
         (whole_in (length bytes) (items_from checked transactions number (sub_machine old).position moves))
         (whole_in (length (bytes ++ piece)) (items_from checked transactions number (sub_machine old).position moves))
         new
-    by_told (Some fault) e stop = absurd (
+    by_fault (Some fault) e stop = absurd (
         let followed = fed_followed checked transactions published number old between follows opens moves sent
         (bytes ++ piece) others first in
         let none : (fed_heard between (bytes ++ piece)).fault ≡ None = followed.no_fault in
         let some : (fed_heard between (bytes ++ piece)).fault ≡ Some fault = stop.fault_is in
         cc)
-    by_told None e stop = (
+    by_fault None e stop = (
       e,
       stopped_beyond checked transactions published number old between middle new follows opens moves sent bytes piece
           others first

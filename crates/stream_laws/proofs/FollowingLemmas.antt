@@ -219,8 +219,8 @@ module _ (checked : CheckedOf) (transactions : List Transaction) (published : Is
 
 -- ---- the stream
 
-told_nothing : (count number : ℕ) → slice_index_or (replicate count false) number false ≡ false
-told_nothing count number = by_test (nat_lt number count)
+announced_nothing : (count number : ℕ) → slice_index_or (replicate count false) number false ≡ false
+announced_nothing count number = by_test (nat_lt number count)
     (λ within. get_or-replicate count number false false (ltb-true number count within))
     (λ past. get_or_past (replicate count false) number false
     (omega (arith, ltb-false number count past, length-replicate count false)))
@@ -267,9 +267,9 @@ stream_safe checked transactions published subscriber machine at_start position 
             knows = record {
               flags = length-replicate (length checked.catalog.tables) false;
               known = λ number. at_start.known (oid_of number)
-                  ∙ sym (told_nothing (length checked.catalog.tables) number);
-              kept = λ number table there told. let nothing = told_nothing (length checked.catalog.tables) number in
-                  absurd cc;
+                  ∙ sym (announced_nothing (length checked.catalog.tables) number);
+              kept = λ number table there flag.
+                  let nothing = announced_nothing (length checked.catalog.tables) number in absurd cc;
             };
             relations = follows.relations;
           })

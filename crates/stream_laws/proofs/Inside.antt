@@ -18,7 +18,7 @@ use Rattle.test_subscriber.specs.declared.phase.Phase.TheVariants.{Busy}
 use Rattle.stream_laws.specs.ShardRows.{FindsRows, in_shard, FindsShard}
 use Rattle.stream_laws.specs.Following.{own_key, KeepsRelations, Follows}
 use Rattle.stream_laws.proofs.CommandSteps.{finds_alike}
-use Rattle.stream_laws.proofs.RelationSteps.{Knows, learns, told_same, told_other}
+use Rattle.stream_laws.proofs.RelationSteps.{Knows, learns, announced_same, announced_other}
 use Rattle.stream_laws.proofs.Safety.{Safe, safe_heard, safe_both}
 use Rattle.stream_laws.proofs.SwapLemmas.{Found}
 use Rattle.std.proofs.lemmas.Bool.{eqb-true}
@@ -52,54 +52,54 @@ inside_follows checked transactions subscriber begin position outer sent tables 
 }
 
 -- each is the number of a table, and each was announced
-abbrev pub AllTold : List Bool → List ℕ → Type 0
-AllTold sent [] = Unit {0}
-AllTold sent (number ∷ numbers) = (slice_index_or sent number false ≡ true) × AllTold sent numbers
+abbrev pub AllAnnounced : List Bool → List ℕ → Type 0
+AllAnnounced sent [] = Unit {0}
+AllAnnounced sent (number ∷ numbers) = (slice_index_or sent number false ≡ true) × AllAnnounced sent numbers
 
 -- a table that was announced stays announced
-stays_told_one : (sent : List Bool) (number other : ℕ) → number < length sent → slice_index_or sent other false ≡ true
+stays_announced : (sent : List Bool) (number other : ℕ) → number < length sent → slice_index_or sent other false ≡ true
     → slice_index_or (mark_one sent number) other false ≡ true
-stays_told_one sent number other less h = by_test (other == number)
+stays_announced sent number other less h = by_test (other == number)
     (λ here. ap (λ n. slice_index_or (mark_one sent number) n false) (eqb-true other number here)
-    ∙ told_same sent number less)
-    (λ beside. told_other sent number other beside ∙ h)
+    ∙ announced_same sent number less)
+    (λ beside. announced_other sent number other beside ∙ h)
 
-still_told_one : (sent : List Bool) (number other : ℕ) → slice_index_or sent number false ≡ true
+same_beside_announced : (sent : List Bool) (number other : ℕ) → slice_index_or sent number false ≡ true
     → slice_index_or (mark_one sent number) other false ≡ slice_index_or sent other false
-still_told_one sent number other h = by_test (other == number)
+same_beside_announced sent number other h = by_test (other == number)
     (λ here.
     let same : other ≡ number = eqb-true other number here in
-    ap (λ n. slice_index_or (mark_one sent number) n false) same ∙ told_same sent number (within sent number h)
+    ap (λ n. slice_index_or (mark_one sent number) n false) same ∙ announced_same sent number (within sent number h)
     ∙ sym h ∙ ap (λ n. slice_index_or sent n false) (sym same))
-    (λ beside. told_other sent number other beside)
+    (λ beside. announced_other sent number other beside)
   where
     within : (flags : List Bool) (n : ℕ) → slice_index_or flags n false ≡ true → n < length flags
     within [] n e = absurd cc
     within (flag ∷ flags) zero e = omega arith
     within (flag ∷ flags) (suc n) e = let less : n < length flags = within flags n e in omega (arith, less)
 
-pub told_stays : (sent : List Bool) (numbers : List ℕ) (count other : ℕ) → length sent ≡ count
+pub announced_stays : (sent : List Bool) (numbers : List ℕ) (count other : ℕ) → length sent ≡ count
     → All (λ number. number < count) numbers
     → slice_index_or sent other false ≡ true → slice_index_or (mark_all sent numbers) other false ≡ true
 unfolding mark_all
-told_stays sent [] count other long within h = h
-told_stays sent (number ∷ numbers) count other long within h =
-    told_stays (mark_one sent number) numbers count other (length-set sent number true ∙ long)
+announced_stays sent [] count other long within h = h
+announced_stays sent (number ∷ numbers) count other long within h =
+    announced_stays (mark_one sent number) numbers count other (length-set sent number true ∙ long)
     (All-tail (λ n. n < count) number numbers within)
-    (stays_told_one sent number other
+    (stays_announced sent number other
     (subst (λ c. number < c) (sym long) (All-head (λ n. n < count) number numbers within)) h)
 
-pub all_are_told : (sent : List Bool) (numbers : List ℕ) (count : ℕ) → length sent ≡ count
-    → All (λ number. number < count) numbers → AllTold (mark_all sent numbers) numbers
+pub all_are_announced : (sent : List Bool) (numbers : List ℕ) (count : ℕ) → length sent ≡ count
+    → All (λ number. number < count) numbers → AllAnnounced (mark_all sent numbers) numbers
 unfolding mark_all
-all_are_told sent [] count long within = tt
-all_are_told sent (number ∷ numbers) count long within =
+all_are_announced sent [] count long within = tt
+all_are_announced sent (number ∷ numbers) count long within =
     let less : number < length sent =
     subst (λ c. number < c) (sym long) (All-head (λ n. n < count) number numbers within) in
     let others = All-tail (λ n. n < count) number numbers within in (
-      told_stays (mark_one sent number) numbers count number (length-set sent number true ∙ long) others
-          (told_same sent number less),
-      all_are_told (mark_one sent number) numbers count (length-set sent number true ∙ long) others,
+      announced_stays (mark_one sent number) numbers count number (length-set sent number true ∙ long) others
+          (announced_same sent number less),
+      all_are_announced (mark_one sent number) numbers count (length-set sent number true ∙ long) others,
     )
 
 -- ---- within one transaction
@@ -149,9 +149,9 @@ module _ (checked : CheckedOf) (transactions : List Transaction) (subscriber beg
     rows = inside.rows;
     knows = record {
       flags = length-set sent number true ∙ inside.knows.flags;
-      known = λ other. inside.knows.known other ∙ sym (still_told_one sent number other flag);
-      kept = λ other table there told_too. inside.knows.kept other table there
-          (sym (still_told_one sent number other flag) ∙ told_too);
+      known = λ other. inside.knows.known other ∙ sym (same_beside_announced sent number other flag);
+      kept = λ other table there announced_too. inside.knows.kept other table there
+          (sym (same_beside_announced sent number other flag) ∙ announced_too);
     };
     relations = inside.relations;
     work = inside.work;

@@ -249,51 +249,51 @@ module _ (checked : CheckedOf) (limited : IsLimited checked.catalog) where
       All-append HasTexts (relations_of checked.catalog.tables sent (named_in change)) (message_of change)
       (relations_text sent (named_in change)) h
 
-  part_told : (number : ℕ) (part : Option PartOf) → IsSendablePart part → IsTextPart part
+  part_message : (number : ℕ) (part : Option PartOf) → IsSendablePart part → IsTextPart part
       → All HasTexts (message_of (r.Delete number part))
-  part_told number None h text = All-nil HasTexts
-  part_told number (Some (r.Key row)) h text =
+  part_message number None h text = All-nil HasTexts
+  part_message number (Some (r.Key row)) h text =
       All-cons HasTexts (m.Delete (t.oid_of number) (t.old_of (r.Key row))) [] (row_text row h text)
       (All-nil HasTexts)
-  part_told number (Some (r.Full row)) h text =
+  part_message number (Some (r.Full row)) h text =
       All-cons HasTexts (m.Delete (t.oid_of number) (t.old_of (r.Full row))) [] (row_text row h text)
       (All-nil HasTexts)
 
-  update_told : (number : ℕ) (part : Option PartOf) (new : List Datum) → IsSendablePart part → IsTextPart part
+  update_message : (number : ℕ) (part : Option PartOf) (new : List Datum) → IsSendablePart part → IsTextPart part
       → IsSendableRow new → IsTextRow new → All HasTexts (message_of (r.Update number part new))
-  update_told number None new h text k also =
+  update_message number None new h text k also =
       All-cons HasTexts (m.Update (t.oid_of number) None (cells_of new)) [] (tt, row_text new k also)
       (All-nil HasTexts)
-  update_told number (Some (r.Key row)) new h text k also =
+  update_message number (Some (r.Key row)) new h text k also =
       All-cons HasTexts (m.Update (t.oid_of number) (Some (t.old_of (r.Key row))) (cells_of new)) []
       (row_text row h text, row_text new k also) (All-nil HasTexts)
-  update_told number (Some (r.Full row)) new h text k also =
+  update_message number (Some (r.Full row)) new h text k also =
       All-cons HasTexts (m.Update (t.oid_of number) (Some (t.old_of (r.Full row))) (cells_of new)) []
       (row_text row h text, row_text new k also) (All-nil HasTexts)
 
   -- for rows that are seen
-  rows_told : (number : ℕ) (old new : Option (List Datum))
+  rows_message : (number : ℕ) (old new : Option (List Datum))
       → IfSome old (λ row. fits (setting_in checked) number row ≡ true)
       → IfSome new (λ row. fits (setting_in checked) number row ≡ true)
       → IfSome (option_map (as_recorded (setting_in checked)) (seen_rows number old new))
       (λ one. All HasTexts (message_of one))
-  rows_told number None None h k = tt
-  rows_told number None (Some new) h k =
+  rows_message number None None h k = tt
+  rows_message number None (Some new) h k =
       All-cons HasTexts (m.Insert (t.oid_of number) (cells_of new)) []
       (row_text new (row_sendable number new k) (fits_text checked number new k)) (All-nil HasTexts)
-  rows_told number (Some old) None h k =
-      part_told number (part_of (setting_in checked) number old None) (part_can number old None h)
+  rows_message number (Some old) None h k =
+      part_message number (part_of (setting_in checked) number old None) (part_can number old None h)
       (part_text checked number old None (fits_text checked number old h))
-  rows_told number (Some old) (Some new) h k =
-      update_told number (part_of (setting_in checked) number old (Some new)) new (part_can number old (Some new) h)
+  rows_message number (Some old) (Some new) h k =
+      update_message number (part_of (setting_in checked) number old (Some new)) new (part_can number old (Some new) h)
       (part_text checked number old (Some new) (fits_text checked number old h)) (row_sendable number new k)
       (fits_text checked number new k)
 
-  tables_told : (numbers : List ℕ)
+  tables_message : (numbers : List ℕ)
       → IfSome (option_map (as_recorded (setting_in checked)) (seen_tables numbers))
       (λ one. All HasTexts (message_of one))
-  tables_told [] = tt
-  tables_told (number ∷ numbers) =
+  tables_message [] = tt
+  tables_message (number ∷ numbers) =
       All-cons HasTexts (m.Truncate 0 (map t.oid_of (number ∷ numbers))) [] tt (All-nil HasTexts)
 
   struck : (number subscriber : ℕ) (found : Option (List Datum))
@@ -309,37 +309,37 @@ module _ (checked : CheckedOf) (limited : IsLimited checked.catalog) where
       by_passing (Some row) e = h row (passing_some ((setting_in checked).passes subscriber number) found row e).0
 
   module _ (covered : Covered (setting_in checked)) (subscriber : ℕ) where
-    seen_told : (tables : Tables) (command : Command) → fault_of (setting_in checked) tables command ≡ None
+    seen_message : (tables : Tables) (command : Command) → fault_of (setting_in checked) tables command ≡ None
         → IsSaid (setting_in checked) tables
         → IfSome (option_map (as_recorded (setting_in checked))
         (seen_of (setting_in checked) subscriber tables command)) (λ one. All HasTexts (message_of one))
-    seen_told tables (Insert number row) h so =
-        rows_told number None (passing ((setting_in checked).passes subscriber number) (Some row)) tt
+    seen_message tables (Insert number row) h so =
+        rows_message number None (passing ((setting_in checked).passes subscriber number) (Some row)) tt
         (struck number subscriber (Some row)
         (λ other e. subst (λ r. fits (setting_in checked) number r ≡ true) (some_is row other e)
         (insert_fits tables number row h so)))
-    seen_told tables (Update number key row) h so =
-        rows_told number (passing ((setting_in checked).passes subscriber number) (named tables number key))
+    seen_message tables (Update number key row) h so =
+        rows_message number (passing ((setting_in checked).passes subscriber number) (named tables number key))
         (passing ((setting_in checked).passes subscriber number) (Some row))
         (struck number subscriber (named tables number key)
         (λ old e. so.fit number old (update_old tables number key row old h so e)))
         (struck number subscriber (Some row)
         (λ other e. subst (λ r. fits (setting_in checked) number r ≡ true) (some_is row other e)
         (update_fits tables number key row h so)))
-    seen_told tables (Delete number key) h so =
-        rows_told number (passing ((setting_in checked).passes subscriber number) (named tables number key)) None
+    seen_message tables (Delete number key) h so =
+        rows_message number (passing ((setting_in checked).passes subscriber number) (named tables number key)) None
         (struck number subscriber (named tables number key)
         (λ old e. so.fit number old (delete_old tables number key old h so e))) tt
-    seen_told tables (Truncate numbers) h so =
-        tables_told (filter ((setting_in checked).carries subscriber) (distinct nat_eq numbers))
+    seen_message tables (Truncate numbers) h so =
+        tables_message (filter ((setting_in checked).carries subscriber) (distinct nat_eq numbers))
 
-    all_told : (commands : List Command) (tables : Tables) (number : ℕ)
+    all_messages : (commands : List Command) (tables : Tables) (number : ℕ)
         → first_fault (setting_in checked) tables number commands ≡ None → IsSaid (setting_in checked) tables
         → (sent : List Bool) → All HasTexts
         (said_each checked subscriber sent (record_of (setting_in checked) tables commands))
     unfolding said_each
-    all_told [] tables number h so sent = All-nil HasTexts
-    all_told (command ∷ commands) tables number h so sent =
+    all_messages [] tables number h so sent = All-nil HasTexts
+    all_messages (command ∷ commands) tables number h so sent =
         let setting = setting_in checked in
         let none = not_numbered number (fault_of setting tables command)
         (first_fault setting (applied setting tables command) (number + 1) commands) h in
@@ -350,8 +350,9 @@ module _ (checked : CheckedOf) (limited : IsLimited checked.catalog) where
         (change_text sent mine
         (subst (λ one. IfSome one (λ change. All HasTexts (message_of change)))
         (sym (shows checked covered subscriber tables command none.0))
-        (seen_told tables command none.0 so)))
-        (all_told commands (applied setting tables command) (number + 1) none.1 (said_after tables command none.0 so)
+        (seen_message tables command none.0 so)))
+        (all_messages commands (applied setting tables command) (number + 1) none.1
+        (said_after tables command none.0 so)
         (mark_by sent mine))
 
     enclosed_text : (commit : CommitOf) (messages : List Msg) → All HasTexts messages
@@ -378,7 +379,7 @@ module _ (checked : CheckedOf) (limited : IsLimited checked.catalog) where
         }) limited refl
         (enclosed_text (commit_of number time (record_of (setting_in checked) tables commands))
         (said_each checked subscriber sent (record_of (setting_in checked) tables commands))
-        (all_told commands tables 1 h so sent))
+        (all_messages commands tables 1 h so sent))
 
   -- ---- the tables before each commit
 

@@ -103,13 +103,13 @@ oid_differs one other h = by_test (oid_of one == oid_of other)
     cc))
     (λ differ. differ)
 
-pub told_same : (sent : List Bool) (number : ℕ) → number < length sent
+pub announced_same : (sent : List Bool) (number : ℕ) → number < length sent
     → slice_index_or (mark_one sent number) number false ≡ true
-told_same sent number less = get_or-set_same sent number true false less
+announced_same sent number less = get_or-set_same sent number true false less
 
-pub told_other : (sent : List Bool) (number other : ℕ) → (other == number) ≡ false
+pub announced_other : (sent : List Bool) (number other : ℕ) → (other == number) ≡ false
     → slice_index_or (mark_one sent number) other false ≡ slice_index_or sent other false
-told_other sent number other h = get_or-set_other sent number other true false
+announced_other sent number other h = get_or-set_other sent number other true false
     (λ same. let here : (other == number) ≡ true = (unsigned_Decides other number).1 same in absurd cc)
 
 -- ---- one Relation
@@ -135,10 +135,10 @@ knows_more checked sent machine next number less known is other = ap (λ (f : �
     let same : other ≡ number = (unsigned_Decides other number).0 here in
     let oids : (oid_of other == oid_of number) ≡ true =
     (unsigned_Decides (oid_of other) (oid_of number)).1 (ap oid_of same) in
-    ap (λ b. b || machine.known (oid_of other)) oids ∙ sym (told_same sent number less)
+    ap (λ b. b || machine.known (oid_of other)) oids ∙ sym (announced_same sent number less)
     ∙ ap (λ n. slice_index_or (mark_one sent number) n false) (sym same))
     (λ beside. ap (λ b. b || machine.known (oid_of other)) (oid_differs other number beside) ∙ known.known other
-    ∙ sym (told_other sent number other beside))
+    ∙ sym (announced_other sent number other beside))
 
 shape_is : (one other : TableShape) → Some one ≡ Some other → one ≡ other
 shape_is one other h = cc
@@ -166,7 +166,7 @@ learns checked sent machine number table there less known keeps_all = by_kept (m
         ap (λ n. next.kept (oid_of n)) numbers ∙ here ∙ ap (λ n. Some (shape_for n table)) (sym numbers)
         ∙ ap (λ (t : Table). Some (shape_for other t)) tables)
         (λ beside. elsewhere other beside
-        ∙ known.kept other another at (sym (told_other sent number other beside) ∙ flag))
+        ∙ known.kept other another at (sym (announced_other sent number other beside) ∙ flag))
 
     relations_after : (next : Machine) → next.kept (oid_of number) ≡ Some (shape_for number table)
         → ((other : ℕ) → (other == number) ≡ false → next.kept (oid_of other) ≡ machine.kept (oid_of other))

@@ -21,7 +21,7 @@ use Rattle.stream_laws.specs.ShardRows.{in_shard, FindsShard}
 use Rattle.stream_laws.specs.Following.{own_key, Follows}
 use Rattle.stream_laws.proofs.ChangeSteps.{change_heard}
 use Rattle.stream_laws.proofs.CommandSteps.{cleared, finds_alike}
-use Rattle.stream_laws.proofs.Inside.{Inside, AllTold, all_are_told, good, relations_safe}
+use Rattle.stream_laws.proofs.Inside.{Inside, AllAnnounced, all_are_announced, good, relations_safe}
 use Rattle.stream_laws.proofs.RelationSteps.{shape_for}
 use Rattle.stream_laws.proofs.Safety.{Safe, safe_heard, safe_both}
 use Rattle.filter_tree.proofs.Tests.{by_test}
@@ -70,7 +70,7 @@ empties : (checked : CheckedOf) (sent : List Bool) (numbers : List ℕ) (machine
     → ((number : ℕ) → machine.known (oid_of number) ≡ slice_index_or sent number false)
     → ((number : ℕ) (table : Table) → slice_get checked.catalog.tables number ≡ Some table
     → slice_index_or sent number false ≡ true → machine.kept (oid_of number) ≡ Some (shape_for number table))
-    → AllTold sent numbers → Empties machine numbers
+    → AllAnnounced sent numbers → Empties machine numbers
 unfolding hear_truncate
 empties checked sent [] machine within known kept flags =
     record {
@@ -143,7 +143,7 @@ module _ (checked : CheckedOf) (transactions : List Transaction) (subscriber beg
       (relations_safe checked transactions subscriber begin position outer follows before (number ∷ numbers) sent
       machine within inside)
       (λ next reached.
-      let flags = all_are_told sent (number ∷ numbers) (length checked.catalog.tables) inside.knows.flags within in
+      let flags = all_are_announced sent (number ∷ numbers) (length checked.catalog.tables) inside.knows.flags within in
       let emptied_all = empties checked (mark_all sent (number ∷ numbers)) (number ∷ numbers) next within
       reached.knows.known reached.knows.kept flags in
       safe_heard (Follows checked transactions subscriber)

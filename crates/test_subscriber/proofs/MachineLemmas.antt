@@ -83,15 +83,15 @@ module _ (phase : Phase) (at : ℕ) (wants : Bool) (copies : List TableCopy) (oi
         subst (Reaches (machine_with phase at wants (slice_set copies place new))) (sym (is_staged change))
         (reaches (change old.shape (seen old.rows)) leaves)
 
-  by_told : (change : RowsChange) → (fault : Option SubFault)
+  by_fault : (change : RowsChange) → (fault : Option SubFault)
       → TellsFault fault (change old.shape (seen old.rows))
       → TellsFault fault (change_in oid change (machine_with phase at wants copies))
-  by_told change None tells = tt
-  by_told change (Some fault) tells = is_staged change ∙ ap (staged (machine_with phase at wants copies) oid) tells
+  by_fault change None tells = tt
+  by_fault change (Some fault) tells = is_staged change ∙ ap (staged (machine_with phase at wants copies) oid) tells
 
   pub refuses : (change : RowsChange) (error : SubFault) → RefusedBy (change old.shape (seen old.rows)) error
       → RefusedBy (change_in oid change (machine_with phase at wants copies)) error
-  refuses change error refused = by_told change (sub_fault error) refused
+  refuses change error refused = by_fault change (sub_fault error) refused
 
 -- what staging a change in the copy at a place returns and leaves
 module _ (self after : Replica) (oid place : ℕ) (old new : TableCopy) (known : IsKnownAt self.copies.items oid place)
