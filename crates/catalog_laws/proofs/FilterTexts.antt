@@ -9,7 +9,7 @@ use Rattle.catalog_laws.proofs.ChainTexts.{first_and, more_ands, first_or, more_
 use Rattle.catalog_laws.proofs.ColumnTexts.{names_of}
 use Rattle.catalog_laws.proofs.FilterParts.{primary_of, negation_of, item_of, item_filter, item_back, item_fits, text_of_item}
 use Rattle.catalog_laws.proofs.Followers.{begins_not, FollowsItem, FollowsAnd, FollowsOr}
-use Rattle.catalog_laws.proofs.ItemTexts.{IsFit, ToldByItem, ToldByAnd, ToldByOr, IsToldPrimary, IsToldItem, closed_follows, items_apart}
+use Rattle.catalog_laws.proofs.ItemTexts.{IsFit, ApartAsItem, ApartAsAnd, ApartAsOr, IsApartPrimary, IsApartItem, closed_follows, items_apart}
 use Rattle.catalog_laws.proofs.JoinedTexts.{some_apart}
 use Rattle.catalog_laws.proofs.QuotedTexts.{Same, tail_is}
 
@@ -26,47 +26,47 @@ or_follows z = record {
 
 module _ (columns : List Column) (named : IsDistinct bytes_eq (names_of columns)) where
   -- what is known of a filter and of its parts
-  record Told (one : Expr) : Type 0 where
-    item : ToldByItem columns one
-    negation : IsToldItem columns (negation_of one)
-    first_item : ToldByItem columns (first_and one)
-    more_items : AllByRecursion (ToldByItem columns) (more_ands one)
-    conjunction : ToldByAnd columns one
-    first_conjunction : ToldByAnd columns (first_or one)
-    more_conjunctions : AllByRecursion (ToldByAnd columns) (more_ors one)
-    disjunction : ToldByOr columns one
+  record HasApartParts (one : Expr) : Type 0 where
+    item : ApartAsItem columns one
+    negation : IsApartItem columns (negation_of one)
+    first_item : ApartAsItem columns (first_and one)
+    more_items : AllByRecursion (ApartAsItem columns) (more_ands one)
+    conjunction : ApartAsAnd columns one
+    first_conjunction : ApartAsAnd columns (first_or one)
+    more_conjunctions : AllByRecursion (ApartAsAnd columns) (more_ors one)
+    disjunction : ApartAsOr columns one
 
-  item_told : (one : Expr) → IsFit columns one → IsToldItem columns (item_of one) → ToldByItem columns one
-  item_told one fit told other x y fit_too f g e =
+  item_apart : (one : Expr) → IsFit columns one → IsApartItem columns (item_of one) → ApartAsItem columns one
+  item_apart one fit apart other x y fit_too f g e =
       let found = items_apart columns named (item_of one) (item_of other) x y (item_fits columns one fit)
-      (item_fits columns other fit_too) told f g
+      (item_fits columns other fit_too) apart f g
       (ap (λ (text : List ℕ). text ++ x) (sym (text_of_item columns one)) ∙ e
       ∙ ap (λ (text : List ℕ). text ++ y) (text_of_item columns other)) in
       (sym (item_back one) ∙ ap item_filter found.0 ∙ item_back other, found.1)
 
-  and_told : (one : Expr) → ToldByItem columns (first_and one) → AllByRecursion (ToldByItem columns) (more_ands one)
-      → ToldByAnd columns one
-  and_told one told more_told other x y fit f g e =
-      let found = some_apart (ToldByItem columns) (IsFit columns) (item_level columns) (codes " AND ") FollowsItem
-      FollowsAnd (λ a b v w told_a fit_b. told_a b v w fit_b)
+  and_apart : (one : Expr) → ApartAsItem columns (first_and one) → AllByRecursion (ApartAsItem columns) (more_ands one)
+      → ApartAsAnd columns one
+  and_apart one apart more_apart other x y fit f g e =
+      let found = some_apart (ApartAsItem columns) (IsFit columns) (item_level columns) (codes " AND ") FollowsItem
+      FollowsAnd (λ a b v w a_apart fit_b. a_apart b v w fit_b)
       (λ item z. and_follows (item_level columns item ++ z)) (λ v h. h.item)
       (λ item v z known h. begins_not 65 v (codes " AND " ++ (item_level columns item ++ z)) h.and refl)
       (λ item v z known h. begins_not 65 v (codes " AND " ++ (item_level columns item ++ z)) h.and refl)
-      (first_and one) (first_and other) (more_ands one) (more_ands other) x y told more_told
+      (first_and one) (first_and other) (more_ands one) (more_ands other) x y apart more_apart
       (first_and_fits columns other fit) (more_ands_fit columns other fit) f g
       (ap (λ (text : List ℕ). text ++ x) (sym (text_of_ands columns one)) ∙ e
       ∙ ap (λ (text : List ℕ). text ++ y) (text_of_ands columns other)) in
       (sym (ands_back one) ∙ ap ands_filter found.0 ∙ ands_back other, found.1)
 
-  or_told : (one : Expr) → ToldByAnd columns (first_or one) → AllByRecursion (ToldByAnd columns) (more_ors one)
-      → ToldByOr columns one
-  or_told one told more_told other x y fit f g e =
-      let found = some_apart (ToldByAnd columns) (IsFit columns) (and_level columns) (codes " OR ") FollowsAnd
-      FollowsOr (λ a b v w told_a fit_b. told_a b v w fit_b)
+  or_apart : (one : Expr) → ApartAsAnd columns (first_or one) → AllByRecursion (ApartAsAnd columns) (more_ors one)
+      → ApartAsOr columns one
+  or_apart one apart more_apart other x y fit f g e =
+      let found = some_apart (ApartAsAnd columns) (IsFit columns) (and_level columns) (codes " OR ") FollowsAnd
+      FollowsOr (λ a b v w a_apart fit_b. a_apart b v w fit_b)
       (λ item z. or_follows (and_level columns item ++ z)) (λ v h. h.conjunction)
       (λ item v z known h. begins_not 79 v (codes " OR " ++ (and_level columns item ++ z)) h.or refl)
       (λ item v z known h. begins_not 79 v (codes " OR " ++ (and_level columns item ++ z)) h.or refl)
-      (first_or one) (first_or other) (more_ors one) (more_ors other) x y told more_told
+      (first_or one) (first_or other) (more_ors one) (more_ors other) x y apart more_apart
       (first_or_fits columns other fit) (more_ors_fit columns other fit) f g
       (ap (λ (text : List ℕ). text ++ x) (sym (text_of_ors columns one)) ∙ e
       ∙ ap (λ (text : List ℕ). text ++ y) (text_of_ors columns other)) in
@@ -74,48 +74,49 @@ module _ (columns : List Column) (named : IsDistinct bytes_eq (names_of columns)
 
   -- ---- by induction
 
-  primary_told : (one : Expr) → ToldByOr columns one → IsToldPrimary columns (primary_of one)
-  primary_told (Const truth) told = tt
-  primary_told (Atom (Cmp term op constant)) told = tt
-  primary_told (Atom (IsNull column)) told = told
-  primary_told (Atom (In term constants)) told = tt
-  primary_told (Atom (Between term low high)) told = tt
-  primary_told (Atom (Distinct term constant)) told = told
-  primary_told (Not (Atom (Cmp term op constant))) told = told
-  primary_told (Not (Atom (IsNull column))) told = told
-  primary_told (Not (Atom (In term constants))) told = tt
-  primary_told (Not (Atom (Between term low high))) told = tt
-  primary_told (Not (Atom (Distinct term constant))) told = told
-  primary_told (Not (Const truth)) told = told
-  primary_told (Not (Not part)) told = told
-  primary_told (Not (And left right)) told = told
-  primary_told (Not (Or left right)) told = told
-  primary_told (Not (Is test part)) told = told
-  primary_told (And left right) told = told
-  primary_told (Or left right) told = told
-  primary_told (Is test part) told = told
+  primary_apart : (one : Expr) → ApartAsOr columns one → IsApartPrimary columns (primary_of one)
+  primary_apart (Const truth) apart = tt
+  primary_apart (Atom (Cmp term op constant)) apart = tt
+  primary_apart (Atom (IsNull column)) apart = apart
+  primary_apart (Atom (In term constants)) apart = tt
+  primary_apart (Atom (Between term low high)) apart = tt
+  primary_apart (Atom (Distinct term constant)) apart = apart
+  primary_apart (Not (Atom (Cmp term op constant))) apart = apart
+  primary_apart (Not (Atom (IsNull column))) apart = apart
+  primary_apart (Not (Atom (In term constants))) apart = tt
+  primary_apart (Not (Atom (Between term low high))) apart = tt
+  primary_apart (Not (Atom (Distinct term constant))) apart = apart
+  primary_apart (Not (Const truth)) apart = apart
+  primary_apart (Not (Not part)) apart = apart
+  primary_apart (Not (And left right)) apart = apart
+  primary_apart (Not (Or left right)) apart = apart
+  primary_apart (Not (Is test part)) apart = apart
+  primary_apart (And left right) apart = apart
+  primary_apart (Or left right) apart = apart
+  primary_apart (Is test part) apart = apart
 
-  atom_told : (atom : AtomOf) → IsToldItem columns (item_of (Atom atom))
-  atom_told (Cmp term op constant) = tt
-  atom_told (IsNull column) = tt
-  atom_told (In term constants) = tt
-  atom_told (Between term low high) = tt
-  atom_told (Distinct term constant) = tt
+  atom_apart : (atom : AtomOf) → IsApartItem columns (item_of (Atom atom))
+  atom_apart (Cmp term op constant) = tt
+  atom_apart (IsNull column) = tt
+  atom_apart (In term constants) = tt
+  atom_apart (Between term low high) = tt
+  atom_apart (Distinct term constant) = tt
 
-  negated_atom_told : (atom : AtomOf) → ToldByItem columns (Atom atom) → IsToldItem columns (negation_of (Atom atom))
-  negated_atom_told (Cmp term op constant) told = told
-  negated_atom_told (IsNull column) told = tt
-  negated_atom_told (In term constants) told = tt
-  negated_atom_told (Between term low high) told = tt
-  negated_atom_told (Distinct term constant) told = tt
+  negated_atom_apart : (atom : AtomOf) → ApartAsItem columns (Atom atom) → IsApartItem columns (negation_of (Atom atom))
+  negated_atom_apart (Cmp term op constant) apart = apart
+  negated_atom_apart (IsNull column) apart = tt
+  negated_atom_apart (In term constants) apart = tt
+  negated_atom_apart (Between term low high) apart = tt
+  negated_atom_apart (Distinct term constant) apart = tt
 
   -- a filter that is its own first part at each level
-  alone : (one : Expr) → (ToldByItem columns one → ToldByItem columns (first_and one))
-      → AllByRecursion (ToldByItem columns) (more_ands one) → (ToldByAnd columns one → ToldByAnd columns (first_or one))
-      → AllByRecursion (ToldByAnd columns) (more_ors one) → ToldByItem columns one
-      → IsToldItem columns (negation_of one) → Told one
+  alone : (one : Expr) → (ApartAsItem columns one → ApartAsItem columns (first_and one))
+      → AllByRecursion (ApartAsItem columns) (more_ands one)
+      → (ApartAsAnd columns one → ApartAsAnd columns (first_or one))
+      → AllByRecursion (ApartAsAnd columns) (more_ors one) → ApartAsItem columns one
+      → IsApartItem columns (negation_of one) → HasApartParts one
   alone one first more_items first_conjunction more_conjunctions item negation =
-      let conjunction = and_told one (first item) more_items in
+      let conjunction = and_apart one (first item) more_items in
       record {
         item = item;
         negation = negation;
@@ -124,30 +125,31 @@ module _ (columns : List Column) (named : IsDistinct bytes_eq (names_of columns)
         conjunction = conjunction;
         first_conjunction = first_conjunction conjunction;
         more_conjunctions = more_conjunctions;
-        disjunction = or_told one (first_conjunction conjunction) more_conjunctions;
+        disjunction = or_apart one (first_conjunction conjunction) more_conjunctions;
       }
 
-  told : (one : Expr) → IsFit columns one → Told one
-  told (Const truth) fit =
-      let item = item_told (Const truth) fit tt in
+  filter_apart : (one : Expr) → IsFit columns one → HasApartParts one
+  filter_apart (Const truth) fit =
+      let item = item_apart (Const truth) fit tt in
       alone (Const truth) (λ h. h) tt (λ h. h) tt item item
-  told (Atom atom) fit =
-      let item = item_told (Atom atom) fit (atom_told atom) in
-      alone (Atom atom) (λ h. h) tt (λ h. h) tt item (negated_atom_told atom item)
-  told (Not part) fit =
-      let item = item_told (Not part) fit (told part fit).negation in
+  filter_apart (Atom atom) fit =
+      let item = item_apart (Atom atom) fit (atom_apart atom) in
+      alone (Atom atom) (λ h. h) tt (λ h. h) tt item (negated_atom_apart atom item)
+  filter_apart (Not part) fit =
+      let item = item_apart (Not part) fit (filter_apart part fit).negation in
       alone (Not part) (λ h. h) tt (λ h. h) tt item item
-  told (Is test part) fit =
-      let inner = primary_told part (told part fit).disjunction in
-      let item = item_told (Is test part) fit inner in
+  filter_apart (Is test part) fit =
+      let inner = primary_apart part (filter_apart part fit).disjunction in
+      let item = item_apart (Is test part) fit inner in
       alone (Is test part) (λ h. h) tt (λ h. h) tt item inner
-  told (And left right) fit =
+  filter_apart (And left right) fit =
       let one = And left right in
-      let first = told left fit.0 in
-      let more = all_more (ToldByItem columns) (more_ands left) right first.more_items (told right fit.1).item in
-      let conjunction = and_told one first.first_item more in
-      let disjunction = or_told one conjunction tt in
-      let item = item_told one fit disjunction in
+      let first = filter_apart left fit.0 in
+      let more = all_more (ApartAsItem columns) (more_ands left) right first.more_items
+      (filter_apart right fit.1).item in
+      let conjunction = and_apart one first.first_item more in
+      let disjunction = or_apart one conjunction tt in
+      let item = item_apart one fit disjunction in
       record {
         item = item;
         negation = item;
@@ -158,19 +160,19 @@ module _ (columns : List Column) (named : IsDistinct bytes_eq (names_of columns)
         more_conjunctions = tt;
         disjunction = disjunction;
       }
-  told (Or left right) fit =
+  filter_apart (Or left right) fit =
       let one = Or left right in
-      let first = told left fit.0 in
-      let more = all_more (ToldByAnd columns) (more_ors left) right first.more_conjunctions
-      (told right fit.1).conjunction in
-      let disjunction = or_told one first.first_conjunction more in
-      let item = item_told one fit disjunction in
+      let first = filter_apart left fit.0 in
+      let more = all_more (ApartAsAnd columns) (more_ors left) right first.more_conjunctions
+      (filter_apart right fit.1).conjunction in
+      let disjunction = or_apart one first.first_conjunction more in
+      let item = item_apart one fit disjunction in
       record {
         item = item;
         negation = item;
         first_item = item;
         more_items = tt;
-        conjunction = and_told one item tt;
+        conjunction = and_apart one item tt;
         first_conjunction = first.first_conjunction;
         more_conjunctions = more;
         disjunction = disjunction;
@@ -179,5 +181,6 @@ module _ (columns : List Column) (named : IsDistinct bytes_eq (names_of columns)
   pub fit_filters_apart : (one other : Expr) (x y : List ℕ) → IsFit columns one → IsFit columns other
       → or_level columns one ++ (41 ∷ x) ≡ or_level columns other ++ (41 ∷ y) → Same one other x y
   fit_filters_apart one other x y fit fit_too e =
-      let found = (told one fit).disjunction other (41 ∷ x) (41 ∷ y) fit_too (closed_follows x) (closed_follows y) e in
+      let found = (filter_apart one fit).disjunction other (41 ∷ x) (41 ∷ y) fit_too (closed_follows x)
+      (closed_follows y) e in
       (found.0, tail_is 41 41 x y found.1)

@@ -69,27 +69,27 @@ module _ (columns : List Column) where
 
   -- ---- filters that their texts tell from other filters, at three levels
 
-  abbrev pub ToldByItem : Expr → Type 0
-  ToldByItem one = (other : Expr) (x y : List ℕ) → IsFit other → FollowsItem x → FollowsItem y
+  abbrev pub ApartAsItem : Expr → Type 0
+  ApartAsItem one = (other : Expr) (x y : List ℕ) → IsFit other → FollowsItem x → FollowsItem y
       → expr_text columns level.Not false one ++ x ≡ expr_text columns level.Not false other ++ y → Same one other x y
 
-  abbrev pub ToldByAnd : Expr → Type 0
-  ToldByAnd one = (other : Expr) (x y : List ℕ) → IsFit other → FollowsAnd x → FollowsAnd y
+  abbrev pub ApartAsAnd : Expr → Type 0
+  ApartAsAnd one = (other : Expr) (x y : List ℕ) → IsFit other → FollowsAnd x → FollowsAnd y
       → expr_text columns level.And false one ++ x ≡ expr_text columns level.And false other ++ y → Same one other x y
 
-  abbrev pub ToldByOr : Expr → Type 0
-  ToldByOr one = (other : Expr) (x y : List ℕ) → IsFit other → FollowsOr x → FollowsOr y
+  abbrev pub ApartAsOr : Expr → Type 0
+  ApartAsOr one = (other : Expr) (x y : List ℕ) → IsFit other → FollowsOr x → FollowsOr y
       → expr_text columns level.Or false one ++ x ≡ expr_text columns level.Or false other ++ y → Same one other x y
 
   -- what is known of the filters within a part
-  abbrev pub IsToldPrimary : Primary → Type 0
-  IsToldPrimary (Fixed truth) = Unit {0}
-  IsToldPrimary (Claimed term claim) = Unit {0}
-  IsToldPrimary (Grouped filter) = ToldByOr filter
+  abbrev pub IsApartPrimary : Primary → Type 0
+  IsApartPrimary (Fixed truth) = Unit {0}
+  IsApartPrimary (Claimed term claim) = Unit {0}
+  IsApartPrimary (Grouped filter) = ApartAsOr filter
 
-  abbrev pub IsToldItem : Item → Type 0
-  IsToldItem (Denied filter) = ToldByItem filter
-  IsToldItem (Held primary suffix) = IsToldPrimary primary
+  abbrev pub IsApartItem : Item → Type 0
+  IsApartItem (Denied filter) = ApartAsItem filter
+  IsApartItem (Held primary suffix) = IsApartPrimary primary
 
 -- ---- IS tests
 
@@ -194,32 +194,32 @@ module _ (columns : List Column) where
 
   module _ (named : IsDistinct bytes_eq (names_of columns)) where
     by_kind : (one other : Primary) (x y : List ℕ) → kind_of one ≡ kind_of other → IsFitPrimary columns one
-        → IsFitPrimary columns other → IsToldPrimary columns one → IsEnded x → IsEnded y
+        → IsFitPrimary columns other → IsApartPrimary columns one → IsEnded x → IsEnded y
         → primary_text columns one ++ x ≡ primary_text columns other ++ y → Same one other x y
-    by_kind (Fixed truth) (Fixed other) x y same p q told f g e =
+    by_kind (Fixed truth) (Fixed other) x y same p q apart f g e =
         let found = truths_apart truth other x y e in (ap Fixed found.0, found.1)
-    by_kind (Claimed term one) (Claimed term_too other) x y same p q told f g e =
+    by_kind (Claimed term one) (Claimed term_too other) x y same p q apart f g e =
         let terms = terms_apart columns named term term_too (claim_text one ++ x) (claim_text other ++ y) p q
         (claim_follows one x) (claim_follows other y)
         (sym (append_assoc (term_text columns term) (claim_text one) x) ∙ e
         ∙ append_assoc (term_text columns term_too) (claim_text other) y) in
         let claims = claims_apart one other x y f g terms.1 in
         (ap (λ (t : Term). Claimed t one) terms.0 ∙ ap (λ (c : Claim). Claimed term_too c) claims.0, claims.1)
-    by_kind (Grouped one) (Grouped other) x y same p q told f g e =
-        let found = told other (41 ∷ x) (41 ∷ y) q (closed_follows x) (closed_follows y)
+    by_kind (Grouped one) (Grouped other) x y same p q apart f g e =
+        let found = apart other (41 ∷ x) (41 ∷ y) q (closed_follows x) (closed_follows y)
         (tail_is 40 40 (expr_text columns level.Or false one ++ (41 ∷ x))
         (expr_text columns level.Or false other ++ (41 ∷ y))
         (sym (grouped_text one x) ∙ e ∙ grouped_text other y)) in
         (ap Grouped found.0, tail_is 41 41 x y found.1)
-    by_kind one other x y same p q told f g e = absurd (omega (arith, same))
+    by_kind one other x y same p q apart f g e = absurd (omega (arith, same))
 
     primaries_apart : (one other : Primary) (x y : List ℕ) → IsFitPrimary columns one → IsFitPrimary columns other
-        → IsToldPrimary columns one → IsEnded x → IsEnded y
+        → IsApartPrimary columns one → IsEnded x → IsEnded y
         → primary_text columns one ++ x ≡ primary_text columns other ++ y → Same one other x y
-    primaries_apart one other x y p q told f g e =
+    primaries_apart one other x y p q apart f g e =
         by_kind one other x y
         (sym (primary_kind one x p) ∙ ap (λ (text : List ℕ). kind_at (first_byte text)) e ∙ primary_kind other y q)
-        p q told f g e
+        p q apart f g e
 
     -- ---- items
 
@@ -239,15 +239,15 @@ module _ (columns : List Column) where
         no_kind (Grouped inner) is = omega (arith, is)
 
     pub items_apart : (one other : Item) (x y : List ℕ) → IsFitItem columns one → IsFitItem columns other
-        → IsToldItem columns one → FollowsItem x → FollowsItem y
+        → IsApartItem columns one → FollowsItem x → FollowsItem y
         → item_text columns one ++ x ≡ item_text columns other ++ y → Same one other x y
-    items_apart (Denied one) (Denied other) x y p q told f g e =
-        let found = told other x y q f g (append_cancel_left (codes "NOT ") _ _ e) in (ap Denied found.0, found.1)
-    items_apart (Denied one) (Held other suffix) x y p q told f g e =
+    items_apart (Denied one) (Denied other) x y p q apart f g e =
+        let found = apart other x y q f g (append_cancel_left (codes "NOT ") _ _ e) in (ap Denied found.0, found.1)
+    items_apart (Denied one) (Held other suffix) x y p q apart f g e =
         absurd (held_differs other suffix one y x q (sym e))
-    items_apart (Held one suffix) (Denied other) x y p q told f g e = absurd (held_differs one suffix other x y p e)
-    items_apart (Held one suffix) (Held other suffix_too) x y p q told f g e =
-        let first = primaries_apart one other (suffix_text suffix ++ x) (suffix_text suffix_too ++ y) p q told
+    items_apart (Held one suffix) (Denied other) x y p q apart f g e = absurd (held_differs one suffix other x y p e)
+    items_apart (Held one suffix) (Held other suffix_too) x y p q apart f g e =
+        let first = primaries_apart one other (suffix_text suffix ++ x) (suffix_text suffix_too ++ y) p q apart
         (suffix_ended suffix x f.ended) (suffix_ended suffix_too y g.ended)
         (sym (held_text one suffix x) ∙ e ∙ held_text other suffix_too y) in
         let rest = suffixes_apart suffix suffix_too x y f g first.1 in

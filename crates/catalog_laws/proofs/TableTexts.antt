@@ -23,7 +23,7 @@ relation table = (table.schema, table.name)
 abbrev HasColumns : List Column → UniqueIndex → Type 0
 HasColumns columns index = All (λ number. number < length columns) index.columns
 
--- names differ, and numbers are of columns and indexes: such a table is told by its text
+-- names differ, and numbers are of columns and indexes: such a table is determined by its text
 pub record IsClear (table : Table) : Type 0 where
   pub named : IsDistinct bytes_eq (map (λ column. column.name) table.columns)
   pub keyed : All (λ number. number < length table.columns) table.key
@@ -128,7 +128,7 @@ rest_tells named columns ones others one other x y own apart p q a b e =
 
 -- ---- CREATE TABLE
 
--- what is told by a table's first statement, and the rest of what is written
+-- what is determined by a table's first statement, and the rest of what is written
 abbrev Created : Table → Table → List ℕ → List ℕ → Type 0
 Created one other x y =
     (one.schema ≡ other.schema) × (one.name ≡ other.name) × (one.columns ≡ other.columns) × (one.key ≡ other.key)

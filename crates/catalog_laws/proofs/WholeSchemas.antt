@@ -1,4 +1,4 @@
--- Entries that are exactly the tables of some schemas, whole and in ascending order, are told by the schemas.
+-- Entries that are exactly the tables of some schemas, whole and in ascending order, are determined by the schemas.
 use Rattle.std.proofs.Common.{◌≡◌, ℕ, zero, suc, ◌+◌, ◌<◌, ◌==◌, Bool, true, false, ◌||◌, ◌&&◌, List, [], ◌∷◌, ◌++◌, All, length, refl, sym, ap, subst, ◌∙◌, inl, inr, arith, append_assoc, append-nil}
 use Rattle.std.specs.Prelude.{codes, not, nat_lt, Option, Some, None}
 use Rattle.std.specs.List.{flat_map, list_any}

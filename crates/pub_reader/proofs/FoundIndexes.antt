@@ -12,16 +12,16 @@ use Rattle.pub_reader.specs.Grammar.{fault}
 use Rattle.pub_reader.specs.Identities.{index_named}
 
 module _ (columns : List Column) (indexes : List UniqueIndex) (called : PlacedName) {text : List ℕ} {place : Option ℕ}
-    {number : ℕ} {told : Bool}
+    {number : ℕ} {holds : Bool}
     (spelled : text ≡ called.text) (found : place ≡ find_index text indexes) (there : place ≡ Some number)
-    (tells : told ≡ identifies columns (slice_get indexes number)) where
+    (tells : holds ≡ identifies columns (slice_get indexes number)) where
   is_found : find_index called.text indexes ≡ Some number
   is_found = sym (found ∙ ap (λ (text : List ℕ). find_index text indexes) spelled) ∙ there
 
-  pub is_identity : told ≡ true → index_named columns indexes called ≡ Ok (Index number)
+  pub is_identity : holds ≡ true → index_named columns indexes called ≡ Ok (Index number)
   unfolding index_named
   is_identity h = rw (is_found, sym tells ∙ h) refl
 
-  pub is_no_identity : told ≡ false → index_named columns indexes called ≡ Err (fault called.place w.NullableIndex)
+  pub is_no_identity : holds ≡ false → index_named columns indexes called ≡ Err (fault called.place w.NullableIndex)
   unfolding index_named
   is_no_identity h = rw (is_found, sym tells ∙ h) refl
