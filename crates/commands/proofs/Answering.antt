@@ -1,4 +1,4 @@
--- What is told of a row follows from what the filters of publications say.
+-- What is printed of a row follows from what the filters of publications say.
 use Rattle.std.proofs.Common.{◌≡◌, ℕ, ◌<◌, Bool, List, [], ◌∷◌, length, map, get_or, refl, sym, ap, ◌∙◌, if◌then◌else◌}
 use Rattle.std.specs.Prelude.{Option, Some, None, IfSome, codes, slice_get}
 use Rattle.std.specs.Option.{option_map}

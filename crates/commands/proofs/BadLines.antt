@@ -35,9 +35,9 @@ module _ (wanted : RowOutput) (number : ℕ) (carriers : List CarrierOf) (column
       (same ∙ sym (ap (λ (f : Option RowFault). line_by f (row_said wanted number row carriers)) bad))
 
   -- a row that has no answer has the line of its fault
-  pub bad_told : (text line : List ℕ) (bad : BadRow) → IsReading columns text (Err bad) → is_out_of_memory bad ≡ false
-      → line ≡ bad_line bad → IsLine wanted number carriers columns text line
-  bad_told text line (Unreadable error) reading known same =
+  pub bad_row_line : (text line : List ℕ) (bad : BadRow) → IsReading columns text (Err bad)
+      → is_out_of_memory bad ≡ false → line ≡ bad_line bad → IsLine wanted number carriers columns text line
+  bad_row_line text line (Unreadable error) reading known same =
       unreadable_line error (wrong_of error.kind) (row_of text) line refl known reading same
-  bad_told text line (Invalid wrong) reading known same =
+  bad_row_line text line (Invalid wrong) reading known same =
       invalid_line reading.0 wrong (row_of text) line reading.1 reading.2 same

@@ -133,9 +133,9 @@ module _ (catalog : CatalogOf Expr) where
       (result : Result Status Failure) → number < length catalog.tables
       → IsSoFar number all old new → StopsTable catalog number new newer failure
       → IsErrAnd result (λ failed. failed ≡ failure) → WritesTables catalog old newer result
-  stop_returned number all old new newer failure (Ok told) within before here is = absurd is
+  stop_returned number all old new newer failure (Ok given) within before here is = absurd is
   stop_returned number all old new newer failure (Err failed) within before here is =
-      subst (λ (told : Failure). WritesTables catalog old newer (Err told)) (sym is)
+      subst (λ (why : Failure). WritesTables catalog old newer (Err why)) (sym is)
       (tables_stopped number all old new newer failure within before here)
 
   pub all_written : (number : ℕ) (all : Bool) (status : Status) (old new : Option (List ℕ))

@@ -27,13 +27,13 @@ report_of f.OutOfMemory status old new other writes = writes
 report_of f.Output status old new other writes = absurd (other refl)
 
 -- a failure that is not the writer's
-pub report_is : (failure : Failure) (text : List ℕ) (told status : Status) (old new : Option (List ℕ))
-    → (failure ≡ f.Output → ⊥) → text ≡ text_of (failure_lines failure) → told ≡ status_of_failure failure
-    → IsWritten text told old new status → IsReport failure old new status
-report_is failure text told status old new other is same writes =
+pub report_is : (failure : Failure) (text : List ℕ) (expected status : Status) (old new : Option (List ℕ))
+    → (failure ≡ f.Output → ⊥) → text ≡ text_of (failure_lines failure) → expected ≡ status_of_failure failure
+    → IsWritten text expected old new status → IsReport failure old new status
+report_is failure text expected status old new other is same writes =
     report_of failure status old new other
     (subst (λ (t : Status). IsWritten (text_of (failure_lines failure)) t old new status) same
-    (subst (λ (t : List ℕ). IsWritten t told old new status) is writes))
+    (subst (λ (t : List ℕ). IsWritten t expected old new status) is writes))
 
 -- the writer failed before
 pub is_silent : (failure : Failure) (old : Option (List ℕ)) → failure ≡ f.Output → IsReport failure old old Output

@@ -137,7 +137,7 @@ module _ (wanted : RowOutput) (number : ℕ) (carriers : List CarrierOf) (column
       (old new : Option (List ℕ)) (result : Result Status Failure) → left ≡ row ∷ later
       → IsSoFar rows left status old new → IsErrAnd result (λ failure. failure ≡ f.OutOfMemory)
       → WritesRows wanted number carriers columns rows old new result
-  memory_returned rows left row later status old new (Ok told) left_is now is = absurd is
+  memory_returned rows left row later status old new (Ok made) left_is now is = absurd is
   memory_returned rows left row later status old new (Err failure) left_is now is =
       subst (λ (failed : Failure). WritesRows wanted number carriers columns rows old new (Err failed)) (sym is)
       (out_of_memory rows left row later status old new new left_is now refl)
@@ -148,9 +148,9 @@ module _ (wanted : RowOutput) (number : ℕ) (carriers : List CarrierOf) (column
       → IsSoFar rows left status old new → IsLine wanted number carriers columns row line
       → StopsText (ended line) new newer failure → IsErrAnd result (λ failed. failed ≡ failure)
       → WritesRows wanted number carriers columns rows old newer result
-  stop_returned rows left row later status old new newer line failure (Ok told) left_is now is_line stops is = absurd is
+  stop_returned rows left row later status old new newer line failure (Ok made) left_is now is_line stops is = absurd is
   stop_returned rows left row later status old new newer line failure (Err failed) left_is now is_line stops is =
-      subst (λ (told : Failure). WritesRows wanted number carriers columns rows old newer (Err told)) (sym is)
+      subst (λ (why : Failure). WritesRows wanted number carriers columns rows old newer (Err why)) (sym is)
       (line_stopped rows left row later status old new newer line failure left_is now is_line stops)
 
   -- no row is left

@@ -179,7 +179,7 @@ module _ (checked : CheckedOf) (most : ℕ) where
   -- memory runs out before the first step
   pub memory_first : (steps : List LineOf) (old new : Option (List ℕ)) (result : Result Status Failure) → new ≡ old
       → IsErrAnd result (λ failure. failure ≡ f.OutOfMemory) → WritesSteps checked most steps old new result
-  memory_first steps old new (Ok told) same is = absurd is
+  memory_first steps old new (Ok given) same is = absurd is
   memory_first steps old new (Err failure) same is =
       subst (λ (failed : Failure). WritesSteps checked most steps old new (Err failed)) (sym is)
       (record { lines = []; begun = inl refl; appends = unwritten old new same })
@@ -214,10 +214,10 @@ module _ (checked : CheckedOf) (most : ℕ) where
       → left ≡ step ∷ later → count < 100000 → IsSoFar steps left count before old new
       → StopsStep before after (count + 1) step.step new newer failure
       → IsErrAnd result (λ failed. failed ≡ failure) → WritesSteps checked most steps old newer result
-  stop_returned steps left step later count before after old new newer failure (Ok told) left_is room now stops is =
+  stop_returned steps left step later count before after old new newer failure (Ok given) left_is room now stops is =
       absurd is
   stop_returned steps left step later count before after old new newer failure (Err failed) left_is room now stops is =
-      subst (λ (told : Failure). WritesSteps checked most steps old newer (Err told)) (sym is)
+      subst (λ (why : Failure). WritesSteps checked most steps old newer (Err why)) (sym is)
       (steps_stopped steps left step later count before after old new newer failure left_is room now stops)
 
   -- no step is left

@@ -65,30 +65,30 @@ verdict_has catalog text texts (Err error) same read sound kept unrefused refuse
 
 -- the first part is no catalog
 module _ (cut : CutTwice) (error : ReadError) (tells : Tells error (catalog_by as_filter cut.first)) where
-  catalog_told : (is_memory : Bool) → is_none (read_fault error) ≡ is_memory
+  catalog_reported : (is_memory : Bool) → is_none (read_fault error) ≡ is_memory
       → IsOfParts cut (if is_memory then f.OutOfMemory else f.Input (i.Catalog error))
-  catalog_told true e = λ input parts. tt
-  catalog_told false e = λ input parts. record { cut = cut; parts = parts; tells = tells; known = e }
+  catalog_reported true e = λ input parts. tt
+  catalog_reported false e = λ input parts. record { cut = cut; parts = parts; tells = tells; known = e }
 
   -- the same of what a `?` gives
   pub catalog_stops : {T : Type 0} (result : Result T Failure)
       → IsErrAnd result (λ failed. failed ≡ failure_of_read error) → IfErr result (IsOfParts cut)
   catalog_stops (Ok given) is = tt
   catalog_stops (Err failed) is =
-      subst (λ (failure : Failure). IsOfParts cut failure) (sym is) (catalog_told (is_none (read_fault error)) refl)
+      subst (λ (failure : Failure). IsOfParts cut failure) (sym is) (catalog_reported (is_none (read_fault error)) refl)
 
 module _ (cut : CutTwice) (catalog : CatalogOf Expr) (reads : catalog_by as_filter cut.first ≡ Ok catalog) where
-  certificate_told : (failure : Failure) → IsOfLines (lines_of cut.second) failure → IsOfParts cut failure
-  certificate_told (f.Input (i.Certificate number error)) is =
+  certificate_reported : (failure : Failure) → IsOfLines (lines_of cut.second) failure → IsOfParts cut failure
+  certificate_reported (f.Input (i.Certificate number error)) is =
       λ input parts. record { cut = cut; catalog = catalog; parts = parts; reads = reads; first = is }
-  certificate_told f.OutOfMemory is = λ input parts. tt
-  certificate_told (f.CommandLine why) is = absurd is
-  certificate_told f.Output is = absurd is
-  certificate_told (f.Input i.Unread) is = absurd is
-  certificate_told (f.Input i.Parts) is = absurd is
-  certificate_told (f.Input (i.Catalog error)) is = absurd is
-  certificate_told (f.Input (i.Table name)) is = absurd is
-  certificate_told (f.Input (i.Script error)) is = absurd is
+  certificate_reported f.OutOfMemory is = λ input parts. tt
+  certificate_reported (f.CommandLine why) is = absurd is
+  certificate_reported f.Output is = absurd is
+  certificate_reported (f.Input i.Unread) is = absurd is
+  certificate_reported (f.Input i.Parts) is = absurd is
+  certificate_reported (f.Input (i.Catalog error)) is = absurd is
+  certificate_reported (f.Input (i.Table name)) is = absurd is
+  certificate_reported (f.Input (i.Script error)) is = absurd is
 
   -- the same of what a `?` gives
   pub certificate_stops : {T : Type 0} (failure : Failure) (result : Result T Failure)
@@ -96,11 +96,12 @@ module _ (cut : CutTwice) (catalog : CatalogOf Expr) (reads : catalog_by as_filt
       → IfErr result (IsOfParts cut)
   certificate_stops failure (Ok given) is same = tt
   certificate_stops failure (Err failed) is same =
-      subst (λ (told : Failure). IsOfParts cut told) (sym same) (certificate_told failure is)
+      subst (λ (why : Failure). IsOfParts cut why) (sym same) (certificate_reported failure is)
 
   module _ (certificates : text_fault 1 (lines_of cut.second) ≡ None) where
-    script_told : (failure : Failure) → IsOfScript (script_by catalog.tables cut.third) failure → IsOfParts cut failure
-    script_told (f.Input (i.Script error)) is = λ input parts. record {
+    script_reported : (failure : Failure) → IsOfScript (script_by catalog.tables cut.third) failure
+        → IsOfParts cut failure
+    script_reported (f.Input (i.Script error)) is = λ input parts. record {
       cut = cut;
       catalog = catalog;
       parts = parts;
@@ -108,14 +109,14 @@ module _ (cut : CutTwice) (catalog : CatalogOf Expr) (reads : catalog_by as_filt
       certificates = certificates;
       script = is;
     }
-    script_told f.OutOfMemory is = λ input parts. tt
-    script_told (f.CommandLine why) is = absurd is
-    script_told f.Output is = absurd is
-    script_told (f.Input i.Unread) is = absurd is
-    script_told (f.Input i.Parts) is = absurd is
-    script_told (f.Input (i.Catalog error)) is = absurd is
-    script_told (f.Input (i.Table name)) is = absurd is
-    script_told (f.Input (i.Certificate number error)) is = absurd is
+    script_reported f.OutOfMemory is = λ input parts. tt
+    script_reported (f.CommandLine why) is = absurd is
+    script_reported f.Output is = absurd is
+    script_reported (f.Input i.Unread) is = absurd is
+    script_reported (f.Input i.Parts) is = absurd is
+    script_reported (f.Input (i.Catalog error)) is = absurd is
+    script_reported (f.Input (i.Table name)) is = absurd is
+    script_reported (f.Input (i.Certificate number error)) is = absurd is
 
     -- the same of what a `?` gives
     pub script_stops : {T : Type 0} (failure : Failure) (result : Result T Failure)
@@ -123,35 +124,35 @@ module _ (cut : CutTwice) (catalog : CatalogOf Expr) (reads : catalog_by as_filt
         → IfErr result (IsOfParts cut)
     script_stops failure (Ok given) is same = tt
     script_stops failure (Err failed) is same =
-        subst (λ (told : Failure). IsOfParts cut told) (sym same) (script_told failure is)
+        subst (λ (why : Failure). IsOfParts cut why) (sym same) (script_reported failure is)
 
 -- ---- there is no answer
 
 module _ (limit : ℕ) (input : List ℕ) (old : Option (List ℕ)) where
-  none_told : (failure : Failure) → IsOfInput input failure → EndsSimulation limit input old old (Err failure)
-  none_told (f.Input fault) is = (is, refl)
-  none_told f.OutOfMemory is =
+  none_reported : (failure : Failure) → IsOfInput input failure → EndsSimulation limit input old old (Err failure)
+  none_reported (f.Input fault) is = (is, refl)
+  none_reported f.OutOfMemory is =
       memory_ends (IsSimulation limit input []) (λ lines. (lines ≡ []) ⊎ IsBegunSimulation limit input lines)
       (IsSimulateFault input) (inl refl) old old refl
-  none_told (f.CommandLine why) is = absurd is
-  none_told f.Output is = absurd is
+  none_reported (f.CommandLine why) is = absurd is
+  none_reported f.Output is = absurd is
 
   -- the same of what a `?` gives
   pub none_returned : (failure : Failure) (result : Result Status Failure) → IsOfInput input failure
       → IsErrAnd result (λ failed. failed ≡ failure) → EndsSimulation limit input old old result
-  none_returned failure (Ok told) is same = absurd same
+  none_returned failure (Ok given) is same = absurd same
   none_returned failure (Err failed) is same =
-      subst (λ (told : Failure). EndsSimulation limit input old old (Err told)) (sym same)
-      (none_told failure is)
+      subst (λ (why : Failure). EndsSimulation limit input old old (Err why)) (sym same)
+      (none_reported failure is)
 
 -- ---- what is answered
 
 module _ (limit : ℕ) (input : List ℕ) (cut : CutTwice) (parts : three_parts input ≡ Some cut) where
   answered : (verdict : Result Checked CheckError) (lines : List Line) (given : Gives cut verdict lines)
-      (left : List LineOf) (told : List (List ℕ)) (status : Status)
-      → IsResult limit given.catalog (trees_in (lines_of cut.second)) (map line_view lines) left told status
-      → IsSimulation limit input left told status
-  answered verdict lines given left told status result = record {
+      (left : List LineOf) (written : List (List ℕ)) (status : Status)
+      → IsResult limit given.catalog (trees_in (lines_of cut.second)) (map line_view lines) left written status
+      → IsSimulation limit input left written status
+  answered verdict lines given left written status result = record {
     cut = cut;
     catalog = given.catalog;
     steps = map line_view lines;
@@ -170,18 +171,18 @@ module _ (limit : ℕ) (input : List ℕ) (cut : CutTwice) (parts : three_parts 
   steps_made checked lines old new result given writes =
       let steps = map line_view lines in
       let made : CheckedOf = checked_by given.catalog in
-      let of_steps : (left : List LineOf) (told : List (List ℕ)) → AreFirstSteps made limit steps left told
-      → IsSimulation limit input left told Done =
-      λ left told first. answered (Ok checked) lines given left told Done
+      let of_steps : (left : List LineOf) (written : List (List ℕ)) → AreFirstSteps made limit steps left written
+      → IsSimulation limit input left written Done =
+      λ left written first. answered (Ok checked) lines given left written Done
       (record { sound = given.has.is.sound; unrefused = given.has.is.unrefused; first = first }) in
       ends_as (AreAllLines made limit steps) (IsSimulation limit input []) (AreBegunLines made limit steps)
-      (λ told. (told ≡ []) ⊎ IsBegunSimulation limit input told) (IsSimulateFault input)
-      (λ told status all. subst (λ (s : Status). IsSimulation limit input [] told s) (sym all.0)
-      (of_steps [] told all.1))
-      (λ told begun. elim begun [
+      (λ written. (written ≡ []) ⊎ IsBegunSimulation limit input written) (IsSimulateFault input)
+      (λ written status all. subst (λ (s : Status). IsSimulation limit input [] written s) (sym all.0)
+      (of_steps [] written all.1))
+      (λ written begun. elim begun [
         | inl none ↦ inl none
         | inr some ↦ inr (record
-            { step = some.step; later = some.later; first = of_steps (some.step ∷ some.later) told some.first })
+            { step = some.step; later = some.later; first = of_steps (some.step ∷ some.later) written some.first })
       ])
       old new result
       (subst (λ (c : CheckedOf). WritesSteps c limit steps old new result) given.has.is.kept writes)
@@ -194,7 +195,7 @@ module _ (limit : ℕ) (input : List ℕ) (cut : CutTwice) (parts : three_parts 
       → IfErr result (StopsText (ended (refused_line again error)) old new)
       → EndsSimulation limit input old new result
   sharding_refused error lines again old new result given same status appends stops =
-      line_ends (IsSimulation limit input []) (λ told. (told ≡ []) ⊎ IsBegunSimulation limit input told)
+      line_ends (IsSimulation limit input []) (λ written. (written ≡ []) ⊎ IsBegunSimulation limit input written)
       (IsSimulateFault input) (inl refl) (refused_line given.catalog error) Refused old new result
       (answered (Err error) lines given [] (refused_line given.catalog error ∷ []) Refused
       (record { error = error; refusal = given.has.is.refusal; wrong = given.has.is.wrong; are = refl }))

@@ -111,7 +111,7 @@ module _ (before after : World) (now : ℕ) (step : StepOf) (text : List ℕ) wh
       → DoesFromEach before after now step text
   pump_made subscriber answer is (Pumped position all at end) text_is =
       all_pumped subscriber position is all at end text_is
-  pump_made subscriber answer is (Ended told some refused) text_is = part_pumped subscriber told is some refused text_is
+  pump_made subscriber answer is (Ended one some refused) text_is = part_pumped subscriber one is some refused text_is
 
 pub view_made : (code : World) (now : ℕ) (step : StepOf) (catalog : CatalogOf Expr) (view : View) (text : List ℕ)
     → a.View ≡ action_of now step → catalog ≡ (world_checked code).catalog

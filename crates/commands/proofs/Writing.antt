@@ -117,7 +117,7 @@ module _ (W : List (List ℕ) → Status → Type 0) (B : List (List ℕ) → Ty
   pub text_ends : (text : List ℕ) (lines : List (List ℕ)) → text_of lines ≡ text → (status : Status)
       (old new : Option (List ℕ)) (result : Result Status Failure) → W lines status → IfOk result (λ s. s ≡ status)
       → OnOk result (Appends old new text) → IfErr result (StopsText text old new) → Ends W B IsThere old new result
-  text_ends text lines are status old new (Ok told) is same appends stops = record {
+  text_ends text lines are status old new (Ok given) is same appends stops = record {
     lines = lines;
     whole = subst (λ (s : Status). W lines s) (sym same) is;
     appends = subst (λ (t : List ℕ). Appends old new t) (sym are) appends;

@@ -10,8 +10,8 @@ use Rattle.commands.specs.declared.failure.Status.TheVariants.{Output}
 
 -- a text is written, and the status is this; or a prefix of it, if the writer fails
 abbrev pub IsWritten : List ℕ → Status → Option (List ℕ) → Option (List ℕ) → Status → Type 0
-IsWritten text told old new status =
-    ((status ≡ told) × Appends old new text) ⊎ ((status ≡ Output) × WritesFirst text old new)
+IsWritten text expected old new status =
+    ((status ≡ expected) × Appends old new text) ⊎ ((status ≡ Output) × WritesFirst text old new)
 
 abbrev pub Reports : Failure → Option (List ℕ) → Option (List ℕ) → Status → Type 0
 Reports failure old new status = IsWritten (text_of (failure_lines failure)) (status_of_failure failure) old new status

@@ -6,7 +6,7 @@ ghost use Rattle.filter_tree.specs.Valid.{IsValid};
 ghost use Rattle.commands.specs.Eval.BadRows.{is_answered};
 ghost use Rattle.commands.specs.Eval.Evaluation.{EndsEvaluation};
 ghost use Rattle.commands.specs.Eval.Memos.{IsLineMemo};
-ghost use Rattle.commands.specs.Eval.Printing.{IsLineIn, WritesRowsIn, carriers_in, told_in};
+ghost use Rattle.commands.specs.Eval.Printing.{IsLineIn, WritesRowsIn, carriers_in, row_said_in};
 ghost use Rattle.commands.specs.Output.{EndsByFault};
 ghost use Rattle.commands.specs.Parts.{lines_of};
 
@@ -35,7 +35,7 @@ use std::alloc::{AllocError, Global};
 use std::mem;
 
 /// Writes what is wanted of a row on an empty line.
-fn push_told(
+fn push_wanted(
     line: &mut String,
     memory: &mut RowMemory,
     carried: CatalogTable<'_>,
@@ -44,9 +44,9 @@ fn push_told(
 ) -> Result<(), AllocError>
     requires empty { string_bytes line.old ≡ [] }
     requires fits { IsValid carried.table.now.columns row.now }
-    requires memo { IsLineMemo wanted (carriers_in carried) memory.old.told }
-    ensures line { OnOk result (string_bytes line.new ≡ told_in wanted carried.entry row.now) }
-    ensures memo { OnOk result (IsLineMemo wanted (carriers_in carried.entry) memory.new.told) }
+    requires memo { IsLineMemo wanted (carriers_in carried) memory.old.memo }
+    ensures line { OnOk result (string_bytes line.new ≡ row_said_in wanted carried.entry row.now) }
+    ensures memo { OnOk result (IsLineMemo wanted (carriers_in carried.entry) memory.new.memo) }
 {
     memory.push_kept(line, wanted, carried.carriers, row)?;
     match wanted {
@@ -57,7 +57,7 @@ fn push_told(
 
 /// Writes the line of a row on an empty line, and tells whether the row has an answer. The row is read in the memory of
 /// the one before it.
-#[tactic(auto, using(crate::proofs::BadLines::bad_told))]
+#[tactic(auto, using(crate::proofs::BadLines::bad_row_line))]
 fn push_line(
     alloc: Global,
     before: &mut Row,
@@ -68,15 +68,15 @@ fn push_line(
     text: &str,
 ) -> Result<bool, AllocError>
     requires empty { string_bytes line.old ≡ [] }
-    requires memo { IsLineMemo wanted (carriers_in carried) memory.old.told }
+    requires memo { IsLineMemo wanted (carriers_in carried) memory.old.memo }
     ensures answered { IfOk result (λ answered. answered ≡ is_answered carried.entry.table.now.columns text.now) }
     ensures line { OnOk result (IsLineIn wanted carried.entry text.now (string_bytes line.new)) }
-    ensures memo { OnOk result (IsLineMemo wanted (carriers_in carried.entry) memory.new.told) }
+    ensures memo { OnOk result (IsLineMemo wanted (carriers_in carried.entry) memory.new.memo) }
 {
     let used = mem::replace(before, Row::from_values(Vec::new(alloc)));
     match table_row(alloc, used, carried.table, text) {
         Ok(row) => {
-            push_told(line, memory, carried, wanted, &row)?;
+            push_wanted(line, memory, carried, wanted, &row)?;
             *before = row;
             Ok(true)
         }

@@ -13,8 +13,8 @@ abbrev pub carriers_in : CatalogTable → List CarrierOf
 carriers_in carried = map carrier_view carried.carriers.now
 
 -- what is wanted of a row that fits
-abbrev pub told_in : RowOutput → CatalogTable → List Datum → List ℕ
-told_in wanted carried row = row_said wanted carried.number row (carriers_in carried)
+abbrev pub row_said_in : RowOutput → CatalogTable → List Datum → List ℕ
+row_said_in wanted carried row = row_said wanted carried.number row (carriers_in carried)
 
 abbrev pub IsLineIn : RowOutput → CatalogTable → List ℕ → List ℕ → Type 0
 IsLineIn wanted carried text line =

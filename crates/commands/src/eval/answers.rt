@@ -27,7 +27,7 @@ impl PublicationAnswer {
     ghost use Rattle.commands.specs.Eval.Answers.{word_of};
 
     /// What is printed after the name of the publication.
-    pub fn told(self) -> &'static str
+    pub fn after_name(self) -> &'static str
         ensures { result.now ≡ 61 ∷ word_of self }
     {
         match self {
@@ -77,7 +77,7 @@ fn push_answer(line: &mut String, name: &str, answer: PublicationAnswer) -> Resu
         line.push(' ')?;
     }
     line.push_str(name)?;
-    line.push_str(answer.told())
+    line.push_str(answer.after_name())
 }
 
 /// Writes what the publication with this number says of a row after what is on the line.

@@ -18,7 +18,7 @@ use std::alloc::{AllocError, Global};
 #[derive(Drop)]
 pub struct RowMemory {
     pub spelling: Spelling,
-    pub told: Option<Memo>,
+    pub memo: Option<Memo>,
     alloc: Global,
 }
 
@@ -90,11 +90,11 @@ fn push_known(
 impl RowMemory {
     /// Nothing kept, and no memory yet.
     pub fn new(alloc: Global) -> RowMemory
-        ensures { result.told ≡ None }
+        ensures { result.memo ≡ None }
     {
         RowMemory {
             spelling: Spelling::new(alloc),
-            told: None,
+            memo: None,
             alloc,
         }
     }
@@ -108,17 +108,17 @@ impl RowMemory {
         row: &Row,
     ) -> Result<(), AllocError>
         requires empty { string_bytes line.old ≡ [] }
-        requires memo { spec.IsLineMemo wanted (map carrier_view carriers.now) self.old.told }
+        requires memo { spec.IsLineMemo wanted (map carrier_view carriers.now) self.old.memo }
         ensures line { OnOk result (
             string_bytes line.new ≡ spec.kept_of wanted (map carrier_view carriers.now) row.now) }
-        ensures memo { OnOk result (spec.IsLineMemo wanted (map carrier_view carriers.now) self.new.told) }
+        ensures memo { OnOk result (spec.IsLineMemo wanted (map carrier_view carriers.now) self.new.memo) }
     {
-        if let Some(memo) = &mut self.told {
+        if let Some(memo) = &mut self.memo {
             return push_known(memo, line, wanted, carriers, row);
         }
         let mut memo = line_memo(self.alloc, wanted, carriers)?;
         push_known(&mut memo, line, wanted, carriers, row)?;
-        self.told = Some(memo);
+        self.memo = Some(memo);
         Ok(())
     }
 }
