@@ -43,7 +43,7 @@ fn filters(alloc: Global, catalog: &Catalog) -> Result<Vec<Option<&Filter>>> {
 }
 
 /// Whether the text that is found is the row's. Where none is found, the row's is kept.
-fn is_told(memo: &mut Memo, row: &Row, text: &str) -> Result<bool, AllocError> {
+fn has_own_text(memo: &mut Memo, row: &Row, text: &str) -> Result<bool, AllocError> {
     let said = memo.locate(row);
     if let Some(found) = memo.text(said) {
         return Ok(found == text);
@@ -53,9 +53,9 @@ fn is_told(memo: &mut Memo, row: &Row, text: &str) -> Result<bool, AllocError> {
 }
 
 /// Whether no row has the text of another one.
-fn are_told(memo: &mut Memo, rows: &[(Row, &str)]) -> Result<bool, AllocError> {
+fn have_own_texts(memo: &mut Memo, rows: &[(Row, &str)]) -> Result<bool, AllocError> {
     for (row, text) in rows {
-        if !is_told(memo, row, *text)? {
+        if !has_own_text(memo, row, *text)? {
             return Ok(false);
         }
     }
@@ -83,12 +83,12 @@ pub fn is_refused(alloc: Global, number: u16) -> Result<bool> {
     let rows = rows(alloc)?;
     refuse(alloc, number)?;
     let mut made = Memo::new(alloc, &filters).ok();
-    let told = match &mut made {
-        Some(memo) => are_told(memo, &rows),
+    let own = match &mut made {
+        Some(memo) => have_own_texts(memo, &rows),
         None => Err(AllocError),
     };
     let was_refused = end_refusals(alloc)?;
-    match told {
+    match own {
         Ok(is_right) => ensure!(is_right, "a row has another one's text"),
         Err(AllocError) => ensure!(was_refused, "memory is refused without a cause"),
     }
@@ -97,7 +97,7 @@ pub fn is_refused(alloc: Global, number: u16) -> Result<bool> {
         None => Memo::new(alloc, &filters)?,
     };
     ensure!(
-        are_told(&mut memo, &rows)?,
+        have_own_texts(&mut memo, &rows)?,
         "after the refusal a row has another one's text"
     );
     check_found(&mut memo, &rows)?;

@@ -107,11 +107,11 @@ fn steps<P: Publishing, R: Wait>(
 }
 
 #[test]
-fn a_sender_is_told_what_to_do(rt: HostRuntime) -> Result<(), Fail> {
+fn a_sender_gets_its_steps(rt: HostRuntime) -> Result<(), Fail> {
     let alloc = rt.alloc();
     let checked = accepted(alloc, WHOLE, &["o 0"])?;
-    let told = steps::<Brand, _>(&rt, alloc, Opening::new(alloc)?, checked)?;
-    same(&rt, told, ((1, 1_002, 1_001), (1, 0), 1));
+    let found = steps::<Brand, _>(&rt, alloc, Opening::new(alloc)?, checked)?;
+    same(&rt, found, ((1, 1_002, 1_001), (1, 0), 1));
     Ok(())
 }
 
@@ -172,12 +172,12 @@ fn halves<P: Publishing, R: Wait>(
 fn a_sender_passes_over_what_others_get(rt: HostRuntime) -> Result<(), Fail> {
     let alloc = rt.alloc();
     let checked = accepted(alloc, HALVES, &["s 0 s 1 e 0 o 0 n 1 s 1 o 1 e 0 n 1 n 0"])?;
-    let told = halves::<Brand, _>(&rt, alloc, Opening::new(alloc)?, checked)?;
+    let found = halves::<Brand, _>(&rt, alloc, Opening::new(alloc)?, checked)?;
     let wanted = (
         (1, 2_001, 0),
         (2_064, 2_006, 71),
         (Lsn::end_of_commit(1), Lsn::end_of_commit(64)),
     );
-    same(&rt, told, wanted);
+    same(&rt, found, wanted);
     Ok(())
 }

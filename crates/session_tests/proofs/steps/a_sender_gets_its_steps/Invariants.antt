@@ -1,6 +1,6 @@
 use Rattle.std.specs.Arc.{arc_value}
 use Rattle.shard_checker.specs.CheckedView.{checked_view}
-use Rattle.session_tests.proofs.steps.a_sender_is_told_what_to_do.Given as goal
+use Rattle.session_tests.proofs.steps.a_sender_gets_its_steps.Given as goal
 
 abbrev pub ghosts-steps-P-Ledger : goal.ghosts-steps-P-Ledger
 ghosts-steps-P-Ledger g a = record { name = a.opening.name; parts = a.opening.parts }
