@@ -18,7 +18,7 @@ use Rattle.filter_tree.specs.Lists.{column_of}
 use Rattle.filter_tree.specs.Logic.{or_of, tri_of}
 use Rattle.filter_tree.specs.Expr.{term_value, remainder_of, is_missing, meaning}
 use Rattle.sql_reader.specs.Ascending.{ascending}
-use Rattle.sql_reader.specs.Written.{Written, Told, Column, Compared, ComparedFrom, Among, Between, Distinct, IsNull, Is, Negated, And, Or, compare_values, among_values, between_values, distinct_values, truth_value, turned, as_written, as_filter, filter_of, written_meaning}
+use Rattle.sql_reader.specs.Written.{Written, Fixed, Column, Compared, ComparedFrom, Among, Between, Distinct, IsNull, Is, Negated, And, Or, compare_values, among_values, between_values, distinct_values, truth_value, turned, as_written, as_filter, filter_of, written_meaning}
 use Rattle.sql_reader.proofs.AscendingLemmas.{any_ascending}
 use Rattle.sql_reader.proofs.Carrying.{Carries}
 use Rattle.filter_tree.proofs.Tests.{or_false}
@@ -137,7 +137,7 @@ distinct-same (Known value) constant = refl
 -- the tree of an expression means what the expression means
 pub meaning-filter_of : (expression : Written) (row : List Datum)
     → meaning (filter_of expression) row ≡ written_meaning expression row
-meaning-filter_of (Told truth) row = refl
+meaning-filter_of (Fixed truth) row = refl
 meaning-filter_of (Column column) row = held-same (value_at row column)
 meaning-filter_of (Compared term op constant) row = compared-same op (term_value term row) constant
 meaning-filter_of (ComparedFrom constant op term) row = compared_from-same op (term_value term row) constant

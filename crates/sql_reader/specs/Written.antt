@@ -20,7 +20,7 @@ use Rattle.sql_reader.specs.Operands.{Forms}
 
 -- an expression as it is written
 pub data Written : Type 0 where
-  Told : Bool → Written
+  Fixed : Bool → Written
   Column : ℕ → Written
   Compared : Term → Op → Constant → Written
   ComparedFrom : Constant → Op → Term → Written
@@ -64,7 +64,7 @@ truth_value (Known (Truth truth)) = tri_of truth
 truth_value (Known other) = False
 
 abbrev pub written_meaning : Written → List Datum → Tri
-written_meaning (Told truth) row = tri_of truth
+written_meaning (Fixed truth) row = tri_of truth
 written_meaning (Column column) row = truth_value (value_at row column)
 written_meaning (Compared term op constant) row = compare_values op (term_value term row) (Known constant)
 written_meaning (ComparedFrom constant op term) row = compare_values op (Known constant) (term_value term row)
@@ -114,7 +114,7 @@ abbrev pub lacking_expr : Term → Expr
 lacking_expr term = e.Atom (e.IsNull (column_of term))
 
 abbrev pub filter_of : Written → Expr
-filter_of (Told truth) = e.Const truth
+filter_of (Fixed truth) = e.Const truth
 filter_of (Column column) = held_expr column
 filter_of (Compared term op constant) = compared_expr term op constant
 filter_of (ComparedFrom constant op term) = compared_from_expr constant op term
@@ -131,7 +131,7 @@ filter_of (Or left right) = e.Or (filter_of left) (filter_of right)
 
 abbrev pub as_written : Forms Written
 as_written = record {
-  known = Told;
+  known = Fixed;
   held = Column;
   compared = Compared;
   compared_from = ComparedFrom;

@@ -31,7 +31,7 @@ fn number(r: &mut Reader<'_>, negative: bool) -> Result<PlacedNumber, ReadError>
 }
 
 /// Reads a number, with or without a minus before it, and also returns the place of its digits.
-#[tactic(auto, using(crate::proofs::Ahead::rest_is_fewer), unfolding(crate::specs::Numbers::placed_number, crate::specs::Reading::eat))]
+#[tactic(auto, unfolding(crate::specs::Numbers::placed_number, crate::specs::Reading::eat))]
 pub fn placed_number(r: &mut Reader<'_>) -> Result<PlacedNumber, ReadError>
     ensures { TakesSome (λ number. number) spec.placed_number r.old result r.new }
 {
