@@ -13,6 +13,7 @@ pub mod Rules
 pub mod SameLemmas
 pub mod SendableLemmas
 pub mod SettleLemmas
+pub mod SlotUses
 pub mod StandLemmas
 pub mod StepLemmas
 pub mod TruncateLemmas

@@ -1,6 +1,6 @@
 -- Slots and the positions up to which they are confirmed: PostgreSQL 15, "Logical Replication", 31.2.1 Replication
 -- Slot Management, and 27.2.6 Replication Slots.
-use Rattle.std.specs.Prelude.{ℕ, ◌≤◌, max, nat_lt, Bool, true, false, List, slice_get, slice_set, Option, Some, None, if◌then◌else◌}
+use Rattle.std.specs.Prelude.{◌≡◌, ℕ, ◌≤◌, ◌==◌, max, nat_lt, Bool, true, false, List, slice_get, slice_set, Option, Some, None, if◌then◌else◌}
 use Rattle.tables_log.specs.Lsn.{end_lsn_of}
 use Rattle.tables_log.specs.declared.error.StartError.{StartError}
 use Rattle.tables_log.specs.declared.error.StartError.TheVariants.{NoSlot, Ahead, InUse}
@@ -13,6 +13,25 @@ confirmed_of (Some slot) = slot.confirmed
 -- the confirmed position of the slot with this number; 0 if it does not exist
 abbrev pub confirmed_at : List Slot → ℕ → ℕ
 confirmed_at slots number = confirmed_of (slice_get slots number)
+
+-- a stream uses those of the slots of which this is true, by their numbers, and no others
+abbrev pub AreInUse : (ℕ → Bool) → List Slot → Type 0
+AreInUse used slots = (number : ℕ) (slot : Slot) → slice_get slots number ≡ Some slot → slot.taken ≡ used number
+
+-- the same, but for this slot
+abbrev pub with_use : ℕ → Bool → (ℕ → Bool) → (ℕ → Bool)
+with_use slot is used = λ number. if number == slot then is else used number
+
+-- whichever slots are in use stay so
+abbrev pub KeepsUse : List Slot → List Slot → Type 0
+KeepsUse old new = (used : ℕ → Bool) → AreInUse used old → AreInUse used new
+
+-- the slot with this number, which was free, is in use, and no other changes in this
+pub record TakesUse (old new : List Slot) (number : ℕ) : Type 0 where
+  pub slot : Slot
+  pub exists : slice_get old number ≡ Some slot
+  pub free : slot.taken ≡ false
+  pub uses : (used : ℕ → Bool) → AreInUse used old → AreInUse (with_use number true used) new
 
 -- no slot is confirmed after the end of a log of this number of commits
 abbrev pub IsBounded : List Slot → ℕ → Type 0
