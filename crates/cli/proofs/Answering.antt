@@ -45,26 +45,26 @@ module _ (serves : Bool) (words : List (List ℕ)) (may_fail : Bool) (known : Op
   -- ---- of a reader
 
   module _ (request : Request) (asks : IsRequest words request) (can : CanServe serves request) where
-    unread_told : (old new : Option (List ℕ)) (failure : Failure)
+    unread_reported : (old new : Option (List ℕ)) (failure : Failure)
         → IsOfReading may_fail known failure → new ≡ old
         → IsProgramEnding serves words may_fail known old new (Err failure)
-    unread_told old new (f.Input i.Unread) is same =
+    unread_reported old new (f.Input i.Unread) is same =
         (record { request = request; asks = asks; can = can; unread = is }, same)
-    unread_told old new f.OutOfMemory is same =
+    unread_reported old new f.OutOfMemory is same =
         exits.out_of_memory (asked_of_words serves words may_fail known) old new same
-    unread_told old new (f.CommandLine why) is same = absurd is
-    unread_told old new f.Output is same = absurd is
-    unread_told old new (f.Input i.Parts) is same = absurd is
-    unread_told old new (f.Input (i.Catalog error)) is same = absurd is
-    unread_told old new (f.Input (i.Table name)) is same = absurd is
-    unread_told old new (f.Input (i.Certificate number error)) is same = absurd is
-    unread_told old new (f.Input (i.Script error)) is same = absurd is
+    unread_reported old new (f.CommandLine why) is same = absurd is
+    unread_reported old new f.Output is same = absurd is
+    unread_reported old new (f.Input i.Parts) is same = absurd is
+    unread_reported old new (f.Input (i.Catalog error)) is same = absurd is
+    unread_reported old new (f.Input (i.Table name)) is same = absurd is
+    unread_reported old new (f.Input (i.Certificate number error)) is same = absurd is
+    unread_reported old new (f.Input (i.Script error)) is same = absurd is
 
     unread_ends : (old new : Option (List ℕ)) (result : Result Status Failure)
         → IsErrAnd result (IsOfReading may_fail known) → new ≡ old
         → IsProgramEnding serves words may_fail known old new result
     unread_ends old new (Ok status) is same = absurd is
-    unread_ends old new (Err failure) is same = unread_told old new failure is same
+    unread_ends old new (Err failure) is same = unread_reported old new failure is same
 
   pub reader_ends : (request : Request) (old new : Option (List ℕ)) (result : Result Status Failure)
       → IsRequest words request → CanServe serves request → AnswersReader request may_fail known old new result
@@ -143,12 +143,12 @@ words_say words (f.Input fault) old is = absurd is
 words_say words f.Output old is = absurd is
 
 -- reading the input stops, and nothing is written
-reading_told : (may_fail : Bool) (known : Option (List ℕ)) (failure : Failure) (old : Bool)
+reading_reported : (may_fail : Bool) (known : Option (List ℕ)) (failure : Failure) (old : Bool)
     → IsOfReading may_fail known failure → SaysFault old old (status_of_failure failure)
-reading_told may_fail known (f.Input fault) old is = refl
-reading_told may_fail known f.OutOfMemory old is = refl
-reading_told may_fail known (f.CommandLine why) old is = absurd is
-reading_told may_fail known f.Output old is = absurd is
+reading_reported may_fail known (f.Input fault) old is = refl
+reading_reported may_fail known f.OutOfMemory old is = refl
+reading_reported may_fail known (f.CommandLine why) old is = absurd is
+reading_reported may_fail known f.Output old is = absurd is
 
 pub reading_says : (may_fail : Bool) (known : Option (List ℕ)) (failure : Failure) (old : Bool)
     (result : Result Status Failure) → IsOfReading may_fail known failure → IsErrAnd result (λ failed. failed ≡ failure)
@@ -156,7 +156,7 @@ pub reading_says : (may_fail : Bool) (known : Option (List ℕ)) (failure : Fail
 reading_says may_fail known failure old (Ok told) is same = absurd same
 reading_says may_fail known failure old (Err failed) is same =
     subst (λ (told : Failure). SaysFault old old (status_of_failure told)) (sym same)
-    (reading_told may_fail known failure old is)
+    (reading_reported may_fail known failure old is)
 
 -- reading the input stops, of what a `?` gives
 pub reading_returned : (may_fail : Bool) (known : Option (List ℕ)) (failure : Failure) (result : Result Status Failure)

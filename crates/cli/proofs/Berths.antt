@@ -4,7 +4,7 @@ use Rattle.std.proofs.lemmas.List.{append-nil}
 use Rattle.std.proofs.lemmas.List.Concat.{flat_map-append}
 use Rattle.std.proofs.lemmas.List.Elements.{All-append, All-cons, All-head, All-nil, All-push, All-tail}
 use Rattle.shard_checker.specs.CheckedView.{CheckedOf}
-use Rattle.senders.specs.declared.served.Served.{Served}
+use Rattle.senders.specs.Results.{ServedOf}
 use Rattle.cli.specs.Connections.{StayServed, WasServed, served_at}
 use Rattle.cli.specs.declared.publish.places.Berth.{Berth}
 
@@ -19,8 +19,8 @@ all_last P [] ys all = all
 all_last P (x ∷ xs) ys all = all_last P xs ys (All-tail P x (xs ++ ys) all)
 
 -- what stays so in each place stays so in all
-pub stay_served : (checked : CheckedOf) (old new : List Berth) → length new ≡ length old
-    → ((place : ℕ) (other : Berth) → place < length old
+pub stay_served : {P : Type 0} (checked : CheckedOf) (old new : List (Berth P)) → length new ≡ length old
+    → ((place : ℕ) (other : Berth P) → place < length old
     → StayServed checked (get_or old place other).served.items (get_or new place other).served.items)
     → StayServed checked (served_at old) (served_at new)
 stay_served checked [] [] same each all = all
@@ -34,13 +34,13 @@ stay_served checked (before ∷ old) (after ∷ new) same each all =
     (all_last (WasServed checked) before.served.items (served_at old) all))
 
 -- one place more
-pub served_more : (berths : List Berth) (berth : Berth)
+pub served_more : {P : Type 0} (berths : List (Berth P)) (berth : Berth P)
     → served_at (berths ++ berth ∷ []) ≡ served_at berths ++ berth.served.items
-served_more berths berth =
-    flat_map-append (λ (b : Berth). b.served.items) berths (berth ∷ [])
-    ∙ ap (λ (last : List Served). served_at berths ++ last) (append-nil berth.served.items)
+served_more {P} berths berth =
+    flat_map-append (λ (b : Berth P). b.served.items) berths (berth ∷ [])
+    ∙ ap (λ (last : List ServedOf). served_at berths ++ last) (append-nil berth.served.items)
 
 -- one more result
-pub stay_pushed : (checked : CheckedOf) (before after : List Served) (one : Served)
+pub stay_pushed : (checked : CheckedOf) (before after : List ServedOf) (one : ServedOf)
     → StayServed checked before after → WasServed checked one → StayServed checked before (after ++ one ∷ [])
 stay_pushed checked before after one stay is all = All-push (WasServed checked) after one (stay all) is

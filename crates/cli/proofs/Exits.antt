@@ -135,33 +135,33 @@ module _ (asked : Asked) where
             first_after before after old mid new appends part.1;
       })
 
-  memory_told : (old mid new : Option (List ℕ)) (end : Status) → WritesCutShort asked old mid
+  memory_reported : (old mid new : Option (List ℕ)) (end : Status) → WritesCutShort asked old mid
       → ((end ≡ OutOfMemory) × Appends mid new (text_of (memory_line ∷ []))) ⊎
       ((end ≡ Output) × WritesFirst (text_of (memory_line ∷ [])) mid new) → IsOutcome asked old new end
-  memory_told old mid new end now writes =
+  memory_reported old mid new end now writes =
       let text : text_of (now.lines ++ memory_line ∷ []) ≡ text_of now.lines ++ text_of (memory_line ∷ []) =
       text_of-more now.lines memory_line ∙ ap (λ t. text_of now.lines ++ t) (sym (append-nil (ended memory_line))) in
       told old mid new (text_of now.lines) (text_of (memory_line ∷ [])) OutOfMemory end
       (subst (λ (t : List ℕ). IsOutput asked OutOfMemory t) text (CutShort now.lines now.begun)) now.appends
       writes
 
-  told_instead : (old mid new : Option (List ℕ)) (end : Status) → mid ≡ old
+  reported_instead : (old mid new : Option (List ℕ)) (end : Status) → mid ≡ old
       → ((end ≡ OutOfMemory) × Appends mid new (text_of (memory_line ∷ []))) ⊎
       ((end ≡ Output) × WritesFirst (text_of (memory_line ∷ [])) mid new) → IsOutcome asked old new end
-  told_instead old mid new end e writes =
-      memory_told old mid new end (record { lines = []; begun = inl refl; appends = unwritten old mid e }) writes
+  reported_instead old mid new end e writes =
+      memory_reported old mid new end (record { lines = []; begun = inl refl; appends = unwritten old mid e }) writes
 
   pub reported : (old mid new : Option (List ℕ)) (failure : Failure) (end : Status)
       → IsEnding asked old mid (Err failure) → IsReport failure mid new end → IsOutcome asked old new end
   reported old mid new (f.CommandLine why) end now (inl report) =
       told old mid new [] (text_of (failure_lines (f.CommandLine why))) CommandLine end (Misworded _ now.0)
       (unwritten old mid now.1) report
-  reported old mid new (f.CommandLine why) end now (inr report) = told_instead old mid new end now.1 report
+  reported old mid new (f.CommandLine why) end now (inr report) = reported_instead old mid new end now.1 report
   reported old mid new (f.Input fault) end now (inl report) =
       told old mid new [] (text_of (failure_lines (f.Input fault))) Input end (Rejected fault now.0)
       (unwritten old mid now.1) report
-  reported old mid new (f.Input fault) end now (inr report) = told_instead old mid new end now.1 report
-  reported old mid new f.OutOfMemory end now report = memory_told old mid new end now report
+  reported old mid new (f.Input fault) end now (inr report) = reported_instead old mid new end now.1 report
+  reported old mid new f.OutOfMemory end now report = memory_reported old mid new end now report
   reported old mid new f.Output end now report =
       subst (λ (s : Status). IsOutcome asked old new s) (sym report.0)
       (subst (λ (n : Option (List ℕ)). WritesFirstOutput asked old n) (sym report.1) now)

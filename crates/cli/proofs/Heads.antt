@@ -1,5 +1,5 @@
 -- What `publish` answers, from what its parts gave and how their subscribers were served.
-use Rattle.std.proofs.Common.{◌≡◌, ◌⊎◌, inl, inr, ℕ, Bool, true, false, if◌then◌else◌, List, [], ◌∷◌, ◌++◌, All, Option, Some, None, IfSome, ◌==◌, ap₂, append_assoc, append-nil, refl, sym, ap, subst, ◌∙◌, codes}
+use Rattle.std.proofs.Common.{◌≡◌, inl, inr, ℕ, Bool, true, false, if◌then◌else◌, List, [], ◌∷◌, ◌++◌, Option, Some, None, IfSome, append_assoc, append-nil, refl, sym, ap, subst, ◌∙◌, codes}
 use Rattle.std.specs.Prelude.{IfErr, IfOk, IsErrAnd, OnOk, Result, Ok, Err, is_none}
 use Rattle.std.proofs.KnownBytes.{Consumes-trans, Consumes-whole}
 use Rattle.std.specs.Io.KnownBytes.{Appends, Consumes, IsAtEnd}
@@ -9,11 +9,9 @@ use Rattle.pub_reader.specs.Statements.{catalog_by}
 use Rattle.publisher_desk.specs.Seats.{SeatOf, empty_seat}
 use Rattle.replica_identity.specs.Plans.{plan_of}
 use Rattle.shard_checker.specs.CatalogTruth.{ShardingIsWrong}
-use Rattle.shard_checker.specs.CheckedView.{CheckedOf}
 use Rattle.shard_checker.specs.Sound.{IsSound}
 use Rattle.shard_checker.specs.Texts.{text_fault, trees_in}
 use Rattle.shard_checker.specs.declared.error.CheckError.{CheckError}
-use Rattle.split_cert.specs.Tree.{Tree}
 use Rattle.sql_reader.specs.Reading.{Tells as TellsFault, read_fault}
 use Rattle.sql_reader.specs.Written.{as_filter}
 use Rattle.sql_reader.specs.declared.error.ReadError.{ReadError}
@@ -31,8 +29,8 @@ use Rattle.commands.specs.declared.failure.InputFault.TheVariants as i
 use Rattle.commands.specs.declared.failure.Status.{Status}
 use Rattle.commands.specs.declared.failure.Status.TheVariants.{Refused}
 use Rattle.cli.proofs.LineLemmas.{at_end_of_all, ended_lines-line, ended_lines-plain, ended_lines-text, lines_of-text, no_first_part, no_second_part, parts_there, quit_plain, whole_unread}
-use Rattle.cli.specs.Lines.{AreLast, Ends, Fails, Quits, LacksPart, LineParts, ReadsPart, StopsPart, ended_lines, parts_of}
-use Rattle.cli.specs.Published.{AfterQuit, AreUnanswered, AreUnansweredFor, EndsPublishing, MayFail, NoneLeft, HasClosed, HasSaid, HasToldFirst, IsBegunPublishing, IsPublishHead, IsPublishing, IsTalk, Serves}
+use Rattle.cli.specs.Lines.{AreLast, Ends, Fails, Quits, LineParts, ReadsPart, StopsPart, ended_lines, parts_of}
+use Rattle.cli.specs.Published.{AfterQuit, AreUnanswered, AreUnansweredFor, EndsPublishing, MayFail, NoneLeft, HasClosed, HasSaid, AreEarlierLines, IsBegunPublishing, IsPublishHead, IsPublishing, IsTalk, Serves}
 use Rattle.cli.specs.Requests.{AcceptsInput, AnswersReader}
 use Rattle.cli.specs.Talks.{AreLastFor, Conversation}
 use Rattle.cli.specs.declared.requests.Feed.{Feed}
@@ -173,11 +171,11 @@ module _ (may_fail : Bool) (feed : Feed) (known old : Option (List ℕ)) where
     -- ---- the first part is no catalog
 
     module _ (error : ReadError) (tells : TellsFault error (catalog_by as_filter text)) where
-      catalog_told : (is_memory : Bool) → is_none (read_fault error) ≡ is_memory
+      catalog_reported : (is_memory : Bool) → is_none (read_fault error) ≡ is_memory
           → AnswersReader (Publish feed) may_fail known old old
           (Err (if is_memory then f.OutOfMemory else f.Input (i.Catalog error)))
-      catalog_told true e = unread f.OutOfMemory tt
-      catalog_told false e = inl (record {
+      catalog_reported true e = unread f.OutOfMemory tt
+      catalog_reported false e = inl (record {
         input = input_with given.0;
         given = given.1;
         ends = (
@@ -195,7 +193,7 @@ module _ (may_fail : Bool) (feed : Feed) (known old : Option (List ℕ)) where
           → IsErrAnd result (λ failed. failed ≡ failure_of_read error)
           → AnswersReader (Publish feed) may_fail known old old result
       catalog_returned result is =
-          returned (failure_of_read error) result (catalog_told (is_none (read_fault error)) refl) is
+          returned (failure_of_read error) result (catalog_reported (is_none (read_fault error)) refl) is
 
     -- ---- it is one
 
@@ -203,9 +201,9 @@ module _ (may_fail : Bool) (feed : Feed) (known old : Option (List ℕ)) where
       reads_lines : catalog_by as_filter (text_of first.lines) ≡ Ok catalog
       reads_lines = subst (λ (t : List ℕ). catalog_by as_filter t ≡ Ok catalog) first.is reads
 
-      certificate_told : (failure : Failure) → IsOfLines (lines_of certificates) failure
+      certificate_reported : (failure : Failure) → IsOfLines (lines_of certificates) failure
           → AnswersReader (Publish feed) may_fail known old old (Err failure)
-      certificate_told (f.Input (i.Certificate number error)) is = inl (record {
+      certificate_reported (f.Input (i.Certificate number error)) is = inl (record {
         input = input_with given.0;
         given = given.1;
         ends = (
@@ -219,19 +217,19 @@ module _ (may_fail : Bool) (feed : Feed) (known old : Option (List ℕ)) where
           refl,
         );
       })
-      certificate_told f.OutOfMemory is = unread f.OutOfMemory tt
-      certificate_told (f.CommandLine why) is = absurd is
-      certificate_told f.Output is = absurd is
-      certificate_told (f.Input i.Unread) is = absurd is
-      certificate_told (f.Input i.Parts) is = absurd is
-      certificate_told (f.Input (i.Catalog error)) is = absurd is
-      certificate_told (f.Input (i.Table name)) is = absurd is
-      certificate_told (f.Input (i.Script error)) is = absurd is
+      certificate_reported f.OutOfMemory is = unread f.OutOfMemory tt
+      certificate_reported (f.CommandLine why) is = absurd is
+      certificate_reported f.Output is = absurd is
+      certificate_reported (f.Input i.Unread) is = absurd is
+      certificate_reported (f.Input i.Parts) is = absurd is
+      certificate_reported (f.Input (i.Catalog error)) is = absurd is
+      certificate_reported (f.Input (i.Table name)) is = absurd is
+      certificate_reported (f.Input (i.Script error)) is = absurd is
 
       pub certificate_returned : (failure : Failure) (result : Result Status Failure)
           → IsOfLines (lines_of certificates) failure → IsErrAnd result (λ failed. failed ≡ failure)
           → AnswersReader (Publish feed) may_fail known old old result
-      certificate_returned failure result is same = returned failure result (certificate_told failure is) same
+      certificate_returned failure result is same = returned failure result (certificate_reported failure is) same
 
       module _ (faultless : text_fault 1 (lines_of certificates) ≡ None) where
         is_head : (tail : List ℕ) → IsPublishHead (input_with tail) catalog (parts_with tail)
@@ -343,9 +341,9 @@ module _ (may_fail : Bool) (feed : Feed) (known old : Option (List ℕ)) where
                 answered = talk.answered;
               }
 
-          abbrev told_first : (lines : List (List ℕ)) (said : HasSaid feed (checked_by catalog) left later lines)
-              → HasToldFirst feed catalog (ended_lines (tail_of said.answers said.own said.conversation).0) lines
-          told_first lines said = record {
+          abbrev written_first : (lines : List (List ℕ)) (said : HasSaid feed (checked_by catalog) left later lines)
+              → AreEarlierLines feed catalog (ended_lines (tail_of said.answers said.own said.conversation).0) lines
+          written_first lines said = record {
             port = said.port;
             callers = said.callers;
             answers = said.answers;
@@ -369,7 +367,7 @@ module _ (may_fail : Bool) (feed : Feed) (known old : Option (List ℕ)) where
                   sound = sound;
                   unrefused = unrefused_lines;
                 };
-                first = told_first lines said;
+                first = written_first lines said;
               })
 
           last_lines : (bytes rest : List ℕ) → AreLast may_fail left later bytes
@@ -414,7 +412,7 @@ module _ (may_fail : Bool) (feed : Feed) (known old : Option (List ℕ)) where
                   written = record {
                     earlier = all.earlier;
                     line = all.line;
-                    first = told_first all.earlier all.said;
+                    first = written_first all.earlier all.said;
                     unanswered = unanswered all.said.callers all.said.answers all.said.own all.said.conversation all.all;
                     last = all.last;
                     are = all.are;

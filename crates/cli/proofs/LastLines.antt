@@ -10,7 +10,7 @@ use Rattle.senders.specs.CloseCauses.{CanCome, RefusedClose}
 use Rattle.senders.specs.Closing.{IsClosed}
 use Rattle.senders.specs.Gathering.{all_receipts, receipts_in}
 use Rattle.senders.specs.declared.close_error.CloseError.{CloseError}
-use Rattle.senders.specs.declared.served.Served.{Served}
+use Rattle.senders.specs.Results.{ServedOf}
 use Rattle.commands.specs.declared.failure.Status.TheVariants.{Done}
 use Rattle.cli.proofs.Sessions.{receipts_are_all}
 use Rattle.cli.specs.Connections.{IsFilled, WasServed}
@@ -20,22 +20,23 @@ use Rattle.cli.specs.declared.connections.ConnectionPlace.TheVariants.{Ended}
 
 -- ---- what came of the connections
 
-pub one_more : (all : List Served) (one : Served) (rest : List ConnectionPlace)
+pub one_more : {P : Type 0} (all : List ServedOf) (one : ServedOf) (rest : List (ConnectionPlace P))
     → map Ended (all ++ one ∷ []) ++ rest ≡ map Ended all ++ Ended one ∷ rest
 one_more [] one rest = refl
-one_more (first ∷ all) one rest = ap (λ (l : List ConnectionPlace). Ended first ∷ l) (one_more all one rest)
+one_more {P} (first ∷ all) one rest = ap (λ (l : List (ConnectionPlace P)). Ended first ∷ l) (one_more all one rest)
 
 -- places in which connections have ended have what came of them
-pub all_served : (checked : CheckedOf) (served : List Served) → All (IsFilled checked) (map Ended served)
+pub all_served : {P : Type 0} (checked : CheckedOf) (served : List ServedOf)
+    → All (IsFilled {P = P} checked) (map Ended served)
     → All (WasServed checked) served
-all_served checked served filled place other below =
-    subst (λ (p : ConnectionPlace). IsFilled checked p) (get_or-map (λ (s : Served). Ended s) served place other (Ended other) below)
-    (filled place (Ended other) (omega (arith, below, length-map served (λ (s : Served). Ended s))))
+all_served {P} checked served filled place other below =
+    subst (λ (p : ConnectionPlace P). IsFilled checked p) (get_or-map (λ (s : ServedOf). Ended s) served place other (Ended other) below)
+    (filled place (Ended other) (omega (arith, below, length-map {B = ConnectionPlace P} served (λ (s : ServedOf). Ended s))))
 
 -- ---- how it ended
 
 -- the log has as many commits as the session has notes
-module _ (service : ServiceOf) (seat : SeatOf) (served : List Served) (over : IsOver service seat served)
+module _ (service : ServiceOf) (seat : SeatOf) (served : List ServedOf) (over : IsOver service seat served)
     (checked : CheckedOf) (limit : ℕ) (is_for : IsFor service checked limit) where
   commits : (book : Book) → IsClosed checked limit (seat ∷ []) served book → length (book_log book) ≡ length seat.notes
   commits book closed =

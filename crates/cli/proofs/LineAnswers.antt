@@ -1,6 +1,6 @@
 -- What a line is answered, by what reading it gave.
-use Rattle.std.proofs.Common.{◌≡◌, ℕ, Bool, true, false, List, [], ◌∷◌, ◌++◌, map, Option, Some, None, if◌then◌else◌, refl, sym, subst, codes, option_to_list}
-use Rattle.std.specs.Prelude.{IsUtf8, Result, Ok, Err}
+use Rattle.std.proofs.Common.{◌≡◌, ℕ, Bool, true, false, List, [], ◌∷◌, ◌++◌, Some, None, if◌then◌else◌, refl, sym, subst, codes}
+use Rattle.std.specs.Prelude.{IsUtf8, Ok}
 use Rattle.filter_tree.specs.declared.table.Table.{Table}
 use Rattle.pub_reader.specs.Scripts.{LineOf, script_by}
 use Rattle.pub_reader.specs.StepView.{step_view}
@@ -14,7 +14,6 @@ use Rattle.shard_world.specs.declared.answer.Answer.{Answer}
 use Rattle.table_changes.specs.Commands.{Command}
 use Rattle.sql_reader.specs.KindNames.{kind_name}
 use Rattle.sql_reader.specs.declared.error.ReadError.{ReadError}
-use Rattle.commands.proofs.Writing.{text_of-one}
 use Rattle.commands.specs.Failures.{fault_line}
 use Rattle.commands.specs.Output.{text_of}
 use Rattle.commands.specs.Simulate.Answers.{answer_line}
@@ -27,19 +26,19 @@ use Rattle.cli.specs.Views.{IsViewText}
 
 module _ (checked : CheckedOf) (limit : ℕ) (line : List ℕ) (had : SeatOf) where
   -- the seat stays as it is
-  told_only : (lines : List (List ℕ)) (text : List ℕ) → text ≡ text_of lines
+  reported_alone : (lines : List (List ℕ)) (text : List ℕ) → text ≡ text_of lines
       → IsLineAnswer checked limit had line lines had → Answers checked limit line had had text
-  told_only lines text is answer = record { lines = lines; is = answer; text_is = is }
+  reported_alone lines text is answer = record { lines = lines; is = answer; text_is = is }
 
   pub no_text : (text : List ℕ) → (IsUtf8 line → ⊥) → text ≡ text_of (fault_line i.Unread ∷ [])
       → Answers checked limit line had had text
-  no_text text none is = told_only (fault_line i.Unread ∷ []) text is (NoText none)
+  no_text text none is = reported_alone (fault_line i.Unread ∷ []) text is (NoText none)
 
   module _ (tables : List Table) (same : tables ≡ checked.catalog.tables) where
     pub no_script : (fault : InputFault) (text : List ℕ) → IsOfScript (script_by tables line) (f.Input fault)
         → text ≡ text_of (fault_line fault ∷ []) → Answers checked limit line had had text
     no_script (i.Script error) text stops is =
-        told_only (fault_line (i.Script error) ∷ []) text is (NoScript error (rw same at stops))
+        reported_alone (fault_line (i.Script error) ∷ []) text is (NoScript error (rw same at stops))
     no_script i.Unread text stops is = absurd stops
     no_script i.Parts text stops is = absurd stops
     no_script (i.Catalog error) text stops is = absurd stops
@@ -53,10 +52,10 @@ module _ (checked : CheckedOf) (limit : ℕ) (line : List ℕ) (had : SeatOf) wh
         → first_unfit steps ≡ Some error.place → kind_name error.kind ≡ codes "Expected"
         → text ≡ text_of (fault_line (i.Script error) ∷ []) → Answers checked limit line had had text
     unfit steps error text reads first kind is =
-        told_only (fault_line (i.Script error) ∷ []) text is (Unfit steps error (reads_so steps reads) first kind)
+        reported_alone (fault_line (i.Script error) ∷ []) text is (Unfit steps error (reads_so steps reads) first kind)
 
     pub empty : (text : List ℕ) → script_by tables line ≡ Ok [] → text ≡ [] → Answers checked limit line had had text
-    empty text reads is = told_only [] text is (Empty (reads_so [] reads))
+    empty text reads is = reported_alone [] text is (Empty (reads_so [] reads))
 
     pub one_step : (step : LineOf) (text : List ℕ) (has : SeatOf) → script_by tables line ≡ Ok (step ∷ [])
         → Tells checked limit step.step had has text → Answers checked limit line had has text

@@ -1,5 +1,5 @@
 -- Lines and parts of an input that is read as it comes.
-use Rattle.std.proofs.Common.{◌≡◌, ◌≢◌, ◌⊎◌, inl, inr, ℕ, ◌+◌, ◌-◌, ◌<◌, ◌≤◌, ◌==◌, Bool, true, false, true≢false, List, [], ◌∷◌, ◌++◌, All, Option, Some, None, IfSome, cond, length, take, drop, refl, sym, ap, subst, ◌∙◌, arith, append_assoc, append-nil, ne_eqb, codes, eqb-true, lt-ltb}
+use Rattle.std.proofs.Common.{◌≡◌, ◌≢◌, inl, inr, ℕ, ◌+◌, ◌-◌, ◌<◌, ◌≤◌, ◌==◌, Bool, false, true≢false, List, [], ◌∷◌, ◌++◌, All, Option, Some, None, IfSome, cond, length, take, drop, refl, sym, ap, subst, ◌∙◌, arith, append_assoc, append-nil, ne_eqb, codes, eqb-true, lt-ltb}
 use Rattle.std.proofs.KnownBytes.{Consumes-kept, Consumes-nil, Consumes-trans}
 use Rattle.std.proofs.Math.Seq.{drop-append-add, take-append_seam}
 use Rattle.std.proofs.lemmas.Bool.{cases_lt}
@@ -21,7 +21,7 @@ use Rattle.commands.specs.Inputs.{IsUnread}
 use Rattle.commands.specs.declared.failure.Failure.{Failure}
 use Rattle.commands.specs.declared.failure.Failure.TheVariants as f
 use Rattle.commands.specs.declared.failure.InputFault.TheVariants as i
-use Rattle.cli.specs.Lines.{AreLast, Ends, Fails, Quits, LineCut, LineParts, IsPlain, HasNoSeparator, LacksPart, ReadsLast, ReadsLine, ReadsPart, ReadsSome, StopsLine, StopsPart, cut_lines, ended_lines, onto_before, onto_ended, parts_by, parts_of, with_catalog}
+use Rattle.cli.specs.Lines.{AreLast, Ends, Fails, Quits, IsPlain, HasNoSeparator, LacksPart, ReadsLast, ReadsLine, ReadsPart, ReadsSome, StopsLine, StopsPart, cut_lines, ended_lines, onto_before, onto_ended, parts_by, parts_of, with_catalog}
 
 -- ---- lines
 

@@ -1,19 +1,18 @@
 -- What `publish` writes, and of which input that is the answer.
-use Rattle.std.proofs.Common.{Bool, ◌≡◌, ◌⊎◌, inl, inr, ℕ, List, [], ◌∷◌, ◌++◌, All, Option, Some, None, IfSome, append_assoc, append-nil, refl, sym, ap, subst, ◌∙◌}
+use Rattle.std.proofs.Common.{Bool, ◌≡◌, inl, inr, ℕ, List, [], ◌++◌, Option, Some, None, append-nil, refl, sym, ap, subst, ◌∙◌}
 use Rattle.std.specs.Prelude.{IsErrAnd, IfErr, Result, Ok, Err}
-use Rattle.std.proofs.KnownBytes.{Appends-trans, Consumes-nil, Consumes-trans}
+use Rattle.std.proofs.KnownBytes.{Appends-trans, Consumes-nil}
 use Rattle.std.proofs.lemmas.List.Elements.{All-nil}
 use Rattle.std.proofs.lemmas.List.Concat.{flat_map-append}
-use Rattle.std.specs.Io.KnownBytes.{Appends, Consumes, IsAtEnd}
+use Rattle.std.specs.Io.KnownBytes.{Appends}
 use Rattle.shard_checker.specs.CheckedView.{CheckedOf}
 use Rattle.publisher_desk.specs.Seats.{SeatOf, empty_seat}
 use Rattle.commands.proofs.Writing.{first_after, first_nothing, unwritten}
-use Rattle.commands.specs.Inputs.{IsInput}
-use Rattle.commands.specs.Output.{StopsText, Writes, WritesFirst, ended, text_of}
+use Rattle.commands.specs.Output.{WritesFirst, ended, text_of}
 use Rattle.commands.specs.declared.failure.Failure.{Failure}
 use Rattle.commands.specs.declared.failure.Failure.TheVariants as f
 use Rattle.commands.specs.declared.failure.Status.{Status}
-use Rattle.cli.specs.Published.{AreCallersAt, Closes, HasClosed, IsClosing, IsLastLine, HasSaid, IsPortFor, MayHaveSaid, Opens, Serves, StopsTelling}
+use Rattle.cli.specs.Published.{AreCallersAt, Closes, HasClosed, IsClosing, IsLastLine, HasSaid, IsPortFor, Opens, Serves, StopsTelling}
 use Rattle.cli.specs.Talks.{Conversation, HasAnswered, IsCutOff, IsSeatOf, Nobody, Nothing}
 use Rattle.cli.specs.Lines.{IsPlain}
 use Rattle.cli.specs.Telling.{IsStop, WritesLine, first_lines}

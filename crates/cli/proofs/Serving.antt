@@ -28,7 +28,7 @@ use Rattle.commands.specs.declared.failure.Status.{Status}
 use Rattle.commands.specs.declared.failure.Status.TheVariants.{Refused}
 use Rattle.cli.specs.Scripts.{OnlyCommits, IsOfScript}
 use Rattle.cli.specs.Serving.{EndsService, IsBegunServing, IsServeFault, IsServing}
-use Rattle.cli.specs.Telling.{IsBegun as MayListen, IsServeTold, WritesServeLines, service_of}
+use Rattle.cli.specs.Telling.{IsBegun as MayListen, AreServeLines, WritesServeLines, service_of}
 use Rattle.cli.specs.declared.requests.Service.{Service}
 
 pub out_of_memory : (service : Service) (input : List ℕ) (old new : Option (List ℕ)) → new ≡ old
@@ -46,10 +46,10 @@ memory_returned service input old (Err failed) is =
 -- the first part is no catalog
 module _ (service : Service) (input : List ℕ) (cut : CutTwice) (parts : three_parts input ≡ Some cut)
     (old : Option (List ℕ)) (error : ReadError) (tells : TellsFault error (catalog_by as_filter cut.first)) where
-  catalog_told : (is_memory : Bool) → is_none (read_fault error) ≡ is_memory
+  catalog_reported : (is_memory : Bool) → is_none (read_fault error) ≡ is_memory
       → EndsService service input old old (Err (if is_memory then f.OutOfMemory else f.Input (i.Catalog error)))
-  catalog_told true e = out_of_memory service input old old refl
-  catalog_told false e = (inl (record { cut = cut; parts = parts; tells = tells; known = e }), refl)
+  catalog_reported true e = out_of_memory service input old old refl
+  catalog_reported false e = (inl (record { cut = cut; parts = parts; tells = tells; known = e }), refl)
 
   -- the same of what a `?` gives
   pub catalog_returned : (result : Result Status Failure) → IsErrAnd result (λ failed. failed ≡ failure_of_read error)
@@ -57,24 +57,24 @@ module _ (service : Service) (input : List ℕ) (cut : CutTwice) (parts : three_
   catalog_returned (Ok status) is = absurd is
   catalog_returned (Err failed) is =
       subst (λ (failure : Failure). EndsService service input old old (Err failure)) (sym is)
-      (catalog_told (is_none (read_fault error)) refl)
+      (catalog_reported (is_none (read_fault error)) refl)
 
 module _ (service : Service) (input : List ℕ) (cut : CutTwice) (catalog : CatalogOf Expr)
     (parts : three_parts input ≡ Some cut) (reads : catalog_by as_filter cut.first ≡ Ok catalog) where
   -- ---- there is no answer
 
-  certificate_told : (old new : Option (List ℕ)) (failure : Failure) → IsOfLines (lines_of cut.second) failure
+  certificate_reported : (old new : Option (List ℕ)) (failure : Failure) → IsOfLines (lines_of cut.second) failure
       → new ≡ old → EndsService service input old new (Err failure)
-  certificate_told old new (f.Input (i.Certificate number error)) is same =
+  certificate_reported old new (f.Input (i.Certificate number error)) is same =
       (inl (record { cut = cut; catalog = catalog; parts = parts; reads = reads; first = is }), same)
-  certificate_told old new f.OutOfMemory is same = out_of_memory service input old new same
-  certificate_told old new (f.CommandLine why) is same = absurd is
-  certificate_told old new f.Output is same = absurd is
-  certificate_told old new (f.Input i.Unread) is same = absurd is
-  certificate_told old new (f.Input i.Parts) is same = absurd is
-  certificate_told old new (f.Input (i.Catalog error)) is same = absurd is
-  certificate_told old new (f.Input (i.Table name)) is same = absurd is
-  certificate_told old new (f.Input (i.Script error)) is same = absurd is
+  certificate_reported old new f.OutOfMemory is same = out_of_memory service input old new same
+  certificate_reported old new (f.CommandLine why) is same = absurd is
+  certificate_reported old new f.Output is same = absurd is
+  certificate_reported old new (f.Input i.Unread) is same = absurd is
+  certificate_reported old new (f.Input i.Parts) is same = absurd is
+  certificate_reported old new (f.Input (i.Catalog error)) is same = absurd is
+  certificate_reported old new (f.Input (i.Table name)) is same = absurd is
+  certificate_reported old new (f.Input (i.Script error)) is same = absurd is
 
   pub certificate_returned : (old : Option (List ℕ)) (failure : Failure) (result : Result Status Failure)
       → IsOfLines (lines_of cut.second) failure → IsErrAnd result (λ failed. failed ≡ failure)
@@ -82,12 +82,12 @@ module _ (service : Service) (input : List ℕ) (cut : CutTwice) (catalog : Cata
   certificate_returned old failure (Ok told) is same = absurd same
   certificate_returned old failure (Err failed) is same =
       subst (λ (told : Failure). EndsService service input old old (Err told)) (sym same)
-      (certificate_told old old failure is refl)
+      (certificate_reported old old failure is refl)
 
   module _ (certificates : text_fault 1 (lines_of cut.second) ≡ None) where
-    script_told : (old new : Option (List ℕ)) (failure : Failure) → IsOfScript catalog.tables cut.third failure
+    script_reported : (old new : Option (List ℕ)) (failure : Failure) → IsOfScript catalog.tables cut.third failure
         → new ≡ old → EndsService service input old new (Err failure)
-    script_told old new (f.Input (i.Script error)) (inl is) same = (
+    script_reported old new (f.Input (i.Script error)) (inl is) same = (
       inl (record {
         cut = cut;
         catalog = catalog;
@@ -99,7 +99,7 @@ module _ (service : Service) (input : List ℕ) (cut : CutTwice) (catalog : Cata
       }),
       same,
     )
-    script_told old new (f.Input (i.Script error)) (inr is) same = (
+    script_reported old new (f.Input (i.Script error)) (inr is) same = (
       inr (record {
         cut = cut;
         catalog = catalog;
@@ -111,14 +111,14 @@ module _ (service : Service) (input : List ℕ) (cut : CutTwice) (catalog : Cata
       }),
       same,
     )
-    script_told old new f.OutOfMemory is same = out_of_memory service input old new same
-    script_told old new (f.CommandLine why) is same = absurd is
-    script_told old new f.Output is same = absurd is
-    script_told old new (f.Input i.Unread) is same = absurd is
-    script_told old new (f.Input i.Parts) is same = absurd is
-    script_told old new (f.Input (i.Catalog error)) is same = absurd is
-    script_told old new (f.Input (i.Table name)) is same = absurd is
-    script_told old new (f.Input (i.Certificate number error)) is same = absurd is
+    script_reported old new f.OutOfMemory is same = out_of_memory service input old new same
+    script_reported old new (f.CommandLine why) is same = absurd is
+    script_reported old new f.Output is same = absurd is
+    script_reported old new (f.Input i.Unread) is same = absurd is
+    script_reported old new (f.Input i.Parts) is same = absurd is
+    script_reported old new (f.Input (i.Catalog error)) is same = absurd is
+    script_reported old new (f.Input (i.Table name)) is same = absurd is
+    script_reported old new (f.Input (i.Certificate number error)) is same = absurd is
 
     pub script_returned : (old : Option (List ℕ)) (failure : Failure) (result : Result Status Failure)
         → IsOfScript catalog.tables cut.third failure
@@ -126,7 +126,7 @@ module _ (service : Service) (input : List ℕ) (cut : CutTwice) (catalog : Cata
     script_returned old failure (Ok told) is same = absurd same
     script_returned old failure (Err failed) is same =
         subst (λ (told : Failure). EndsService service input old old (Err told)) (sym same)
-        (script_told old old failure is refl)
+        (script_reported old old failure is refl)
 
     -- ---- what is answered
 
@@ -137,7 +137,7 @@ module _ (service : Service) (input : List ℕ) (cut : CutTwice) (catalog : Cata
           → WritesServeLines (service_of service (checked_by catalog) lists) old new result
           → EndsService service input old new result
       served old new result sound unrefused tells =
-          ends_as (IsServeTold (service_of service (checked_by catalog) lists)) (IsServing service input)
+          ends_as (AreServeLines (service_of service (checked_by catalog) lists)) (IsServing service input)
           (MayListen service.port) (IsBegunServing service input)
           (IsServeFault input)
           (λ lines status told. record {

@@ -1,9 +1,15 @@
--- A book whose slots change twice.
-use Rattle.std.proofs.Common.{◌≡◌, List, refl, ◌∙◌}
+-- A book whose slots change twice, and a look at whether a slot is in use.
+use Rattle.std.proofs.Common.{◌≡◌, ℕ, List, refl, sym, ◌∙◌, ap, subst, true, false, cond, eq-eqb, ne_eqb}
+use Rattle.std.specs.Prelude.{slice_get, None}
+use mathlib.Core.Logic.{dite}
+use native.Mathlib.Decide.{ℕ_discrete}
 use Rattle.tables_log.specs.BookView.{book_slots}
 use Rattle.tables_log.specs.Committing.{ChangesSlots}
+use Rattle.tables_log.specs.Slots.{KeepsUse, released, start_fault, started, with_use}
 use Rattle.tables_log.specs.declared.book.Book.{Book}
 use Rattle.tables_log.specs.declared.slots.Slot.{Slot}
+use Rattle.tables_log.proofs.SlotUses.{released_uses, started_uses}
+use Rattle.copy_both.proofs.StartBounds.{IsStartable, faultless_start}
 
 pub to_its_own : (before after : Book) (slots : List Slot) → ChangesSlots before after slots
     → ChangesSlots before after (book_slots after)
@@ -33,3 +39,40 @@ no_change book = record {
   log = refl;
   slots_are = refl;
 }
+
+-- ---- which slots are in use
+
+-- the slot is free, and is so again after a stream has acquired and released it
+pub looked_uses : (slots : List Slot) (end number position : ℕ) → start_fault slots end number position ≡ None
+    → KeepsUse slots (released (started slots number) number)
+looked_uses slots end number position none used are other one found =
+    let free : IsStartable (slice_get slots number) end position =
+    faultless_start (slice_get slots number) end position none in
+    let after : one.taken ≡ with_use number false (with_use number true used) other =
+    released_uses (with_use number true used) (started slots number) number (started_uses used slots number are) other
+    one found in
+    dite (ℕ_discrete other number)
+    (λ here.
+    after ∙ (ap (λ b. cond b false (with_use number true used other)) (eq-eqb other number here)
+    ∙ (sym free.free ∙ (are number free.slot free.exists ∙ sym (ap used here)))))
+    (λ apart.
+    after ∙ (ap (λ b. cond b false (with_use number true used other)) (ne_eqb other number apart)
+    ∙ ap (λ b. cond b true (used other)) (ne_eqb other number apart)))
+
+pub book_looked : (before mid after : Book) (end number position : ℕ)
+    → start_fault (book_slots before) end number position ≡ None
+    → ChangesSlots before mid (started (book_slots before) number)
+    → ChangesSlots mid after (released (book_slots mid) number) → KeepsUse (book_slots before) (book_slots after)
+book_looked before mid after end number position none first second =
+    subst (KeepsUse (book_slots before))
+    (sym (second.slots_are ∙ ap (λ (slots : List Slot). released slots number) first.slots_are))
+    (looked_uses (book_slots before) end number position none)
+
+pub kept_uses : (before after : Book) (slots : List Slot) → ChangesSlots before after slots
+    → slots ≡ book_slots before → KeepsUse (book_slots before) (book_slots after)
+kept_uses before after slots changes same =
+    subst (KeepsUse (book_slots before)) (sym (changes.slots_are ∙ same)) (λ used are. are)
+
+pub then_uses : (before mid after : Book) → KeepsUse (book_slots before) (book_slots mid)
+    → KeepsUse (book_slots mid) (book_slots after) → KeepsUse (book_slots before) (book_slots after)
+then_uses before mid after first second used are = second used (first used are)

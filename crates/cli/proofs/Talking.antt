@@ -15,7 +15,7 @@ use Rattle.commands.specs.declared.failure.InputFault.{InputFault}
 use Rattle.commands.specs.declared.failure.InputFault.TheVariants as i
 use Rattle.cli.proofs.LineLemmas.{last_of_all}
 use Rattle.cli.specs.Lines.{Ends, Fails, IsPlain, Quits, ReadsLast, ReadsLine, ReadsSome, StopsLine}
-use Rattle.cli.specs.Talks.{Answers, AreAnswered, Conversation, FailsToTell, GoesOn, HasAnswered, HasBegun, HasPart, IsCutOff, IsOver, IsSeatOf, Nobody, Nothing, OneMore, StopsNext}
+use Rattle.cli.specs.Talks.{AreAnswered, Conversation, GoesOn, HasAnswered, HasBegun, IsCutOff, IsOver, IsSeatOf, Nobody, Nothing, OneMore, StopsNext}
 
 module _ (checked : CheckedOf) (limit : ℕ) where
   -- so far: lines were read and answered, and the answers are written

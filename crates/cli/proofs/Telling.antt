@@ -8,7 +8,7 @@ use Rattle.commands.specs.Output.{StopsText, WritesFirst, ended, text_of}
 use Rattle.commands.specs.declared.failure.Failure.{Failure}
 use Rattle.commands.specs.declared.failure.Failure.TheVariants as f
 use Rattle.commands.specs.declared.failure.Status.{Status}
-use Rattle.cli.specs.Telling.{Closes, IsBegun, IsClosing, IsLast, IsStop, IsServeTold, WritesLine, ServiceOf, WritesServeLines, listening_line}
+use Rattle.cli.specs.Telling.{Closes, IsBegun, IsClosing, IsLast, IsStop, AreServeLines, WritesLine, ServiceOf, WritesServeLines, listening_line}
 
 -- ---- a line alone
 
@@ -127,7 +127,7 @@ module _ (service : ServiceOf) where
   two_lines last = refl
 
   told : (lines : List (List ℕ)) (status : Status) → IsClosing service lines status
-      → IsServeTold service (listening_line service.port ∷ lines) status
+      → AreServeLines service (listening_line service.port ∷ lines) status
   told lines status closing =
       record { line = closing.line; are = ap (λ l. listening_line service.port ∷ l) closing.are; last = closing.last }
 

@@ -1,6 +1,6 @@
 -- What is seen of a book that was lent is what VIEW shows.
 use Rattle.std.proofs.lemmas.List.{length-map}
-use Rattle.std.proofs.Common.{◌≡◌, ℕ, zero, suc, List, [], ◌∷◌, length, map, refl, sym, ap, subst, ◌∙◌}
+use Rattle.std.proofs.Common.{◌≡◌, ℕ, zero, suc, List, [], ◌∷◌, length, map, sym, ap, subst, ◌∙◌}
 use Rattle.filter_tree.specs.Datum.{Datum}
 use Rattle.shard_checker.specs.CheckedView.{CheckedOf, setting_in}
 use Rattle.shard_world.proofs.ViewLemmas.{publisher_rows}

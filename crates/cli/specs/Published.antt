@@ -11,7 +11,7 @@ use Rattle.publisher_desk.specs.Seats.{SeatOf, empty_seat}
 use Rattle.senders.specs.CloseCauses.{CanCome, RefusedClose}
 use Rattle.senders.specs.Closing.{IsClosed}
 use Rattle.senders.specs.declared.close_error.CloseError.{CloseError}
-use Rattle.senders.specs.declared.served.Served.{Served}
+use Rattle.senders.specs.Results.{ServedOf}
 use Rattle.tables_log.specs.BookView.{book_log}
 use Rattle.tables_log.specs.declared.book.Book.{Book}
 use Rattle.sql_reader.specs.Reading.{Tells, read_fault}
@@ -26,7 +26,6 @@ use Rattle.split_cert.specs.declared.error.CertError.{CertError}
 use Rattle.commands.specs.Output.{Ends, StopsText, Writes, text_of}
 use Rattle.commands.specs.Verdicts.{IsFirstRefusal, checked_by}
 use Rattle.commands.specs.declared.failure.Failure.{Failure}
-use Rattle.commands.specs.declared.failure.Failure.TheVariants as f
 use Rattle.commands.specs.declared.failure.InputFault.{InputFault}
 use Rattle.commands.specs.declared.failure.InputFault.TheVariants as i
 use Rattle.commands.specs.declared.failure.Status.{Status}
@@ -45,10 +44,10 @@ module _ (checked : CheckedOf) (limit : ℕ) (seat : SeatOf) where
   -- The last line: the publisher was closed with the session's seat, one of 1,000, and with the results of the
   -- connections, each of which was served to its end; or why it was not.
   pub data IsLastLine : List ℕ → Status → Type 0 where
-    Closed : (served : List Served) (book : Book) → All (WasServed checked) served
+    Closed : (served : List ServedOf) (book : Book) → All (WasServed checked) served
         → IsClosed checked limit (seat ∷ []) served book
         → IsLastLine (closed_line (length (book_log book)) (length served)) Done
-    Differs : (served : List Served) (error : CloseError) (name : List ℕ) → All (WasServed checked) served
+    Differs : (served : List ServedOf) (error : CloseError) (name : List ℕ) → All (WasServed checked) served
         → RefusedClose checked limit 1000 999 (seat ∷ []) served error → CanCome error → name_of error ≡ Some name
         → IsLastLine (codes "close " ++ name) Refused
 
@@ -102,7 +101,7 @@ AreUnansweredFor None may_fail lines = AreUnanswered may_fail lines
 AreUnansweredFor (Some port) may_fail lines = Unit {0}
 
 -- That it listens, and those answers. If commands come from callers, the session's seat is that of their lines.
-pub record HasToldFirst (feed : Feed) (catalog : CatalogOf Expr) (commands : List (List ℕ)) (lines : List (List ℕ)) :
+pub record AreEarlierLines (feed : Feed) (catalog : CatalogOf Expr) (commands : List (List ℕ)) (lines : List (List ℕ)) :
     Type 0 where
   pub port : ℕ
   pub callers : Option ℕ
@@ -115,11 +114,11 @@ pub record HasToldFirst (feed : Feed) (catalog : CatalogOf Expr) (commands : Lis
   pub are : lines ≡ first_lines port callers ++ answers
 
 -- the answers to all lines of commands, and a last line
-pub record HasTold (may_fail : Bool) (feed : Feed) (catalog : CatalogOf Expr) (commands : List (List ℕ))
+pub record ArePublishLines (may_fail : Bool) (feed : Feed) (catalog : CatalogOf Expr) (commands : List (List ℕ))
     (lines : List (List ℕ)) (status : Status) : Type 0 where
   pub earlier : List (List ℕ)
   pub line : List ℕ
-  pub first : HasToldFirst feed catalog commands earlier
+  pub first : AreEarlierLines feed catalog commands earlier
   pub unanswered : AreUnansweredFor first.callers may_fail first.talk.unsaid
   pub last : IsLastLine (checked_by catalog) feed.limit first.seat line status
   pub are : lines ≡ earlier ++ line ∷ []
@@ -132,7 +131,7 @@ pub record IsPublishServed (may_fail : Bool) (feed : Feed) (catalog : CatalogOf 
     (commands : List (List ℕ)) (lines : List (List ℕ)) (status : Status) : Type 0 where
   pub sound : IsSound catalog
   pub unrefused : IsFirstRefusal catalog trees None
-  pub written : HasTold may_fail feed catalog commands lines status
+  pub written : ArePublishLines may_fail feed catalog commands lines status
 
 -- the input has three parts, the first is a catalog, and each line of the second is a certificate
 pub record IsPublishHead (input : List ℕ) (catalog : CatalogOf Expr) (parts : LineParts) : Type 0 where
@@ -159,7 +158,7 @@ pub record IsPublishAccepted (input : List ℕ) : Type 0 where
 -- the sharding is accepted, and the first lines of such an answer are written
 pub record HasListenedToPublish (feed : Feed) (input : List ℕ) (lines : List (List ℕ)) : Type 0 where
   pub accepted : IsPublishAccepted input
-  pub first : HasToldFirst feed accepted.catalog accepted.parts.commands lines
+  pub first : AreEarlierLines feed accepted.catalog accepted.parts.commands lines
 
 abbrev pub IsBegunPublishing : Feed → List ℕ → List (List ℕ) → Type 0
 IsBegunPublishing feed input lines = (lines ≡ []) ⊎ HasListenedToPublish feed input lines

@@ -30,7 +30,7 @@ pub record AreServed (service : Service) (catalog : CatalogOf Expr) (trees : Lis
     (lines : List (List ℕ)) (status : Status) : Type 0 where
   pub sound : IsSound catalog
   pub unrefused : IsFirstRefusal catalog trees None
-  pub written : telling.IsServeTold (telling.service_of service (checked_by catalog) lists) lines status
+  pub written : telling.AreServeLines (telling.service_of service (checked_by catalog) lists) lines status
 
 -- the line of the sharding's refusal
 pub record IsRefusal (catalog : CatalogOf Expr) (trees : List Tree) (lines : List (List ℕ)) (status : Status) : Type 0

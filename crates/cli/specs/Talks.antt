@@ -2,7 +2,6 @@
 -- none. The format is this program's own; what a commit does is that of PostgreSQL 15, 3.4. Transactions.
 use Rattle.std.specs.Prelude.{◌≡◌, ◌≢◌, ℕ, Bool, true, false, ◌&&◌, if◌then◌else◌, List, [], ◌∷◌, ◌++◌, All, IsUtf8, Option, Some, None, Ok, codes}
 use Rattle.std.specs.Io.KnownBytes.{Appends, Consumes}
-use Rattle.filter_tree.specs.declared.table.Table.{Table}
 use Rattle.table_changes.specs.Commands.{Command}
 use Rattle.pub_reader.specs.Scripts.{LineOf, script_by}
 use Rattle.pub_reader.specs.Steps.{StepOf, Commit, View}
@@ -70,10 +69,10 @@ module _ (checked : CheckedOf) (limit : ℕ) where
         → IsTalkAnswered had commands has (a.Refused error)
 
   -- A step is answered with these lines. VIEW shows the log that the session has then seen.
-  pub data IsTalkTold (had has : SeatOf) : StepOf → List (List ℕ) → Type 0 where
+  pub data IsStepAnswered (had has : SeatOf) : StepOf → List (List ℕ) → Type 0 where
     Committing : (commands : List Command) (answer : Answer) → IsTalkAnswered had commands has answer
-        → IsTalkTold had has (Commit commands) (answer_line answer ∷ [])
-    Viewing : (lines : List (List ℕ)) → IsView checked has lines → has.notes ≡ had.notes → IsTalkTold had has View lines
+        → IsStepAnswered had has (Commit commands) (answer_line answer ∷ [])
+    Viewing : (lines : List (List ℕ)) → IsView checked has lines → has.notes ≡ had.notes → IsStepAnswered had has View lines
 
   -- A line is answered with these lines. A step may show the session more of the log.
   pub data IsLineAnswer (had : SeatOf) (line : List ℕ) : List (List ℕ) → SeatOf → Type 0 where
@@ -85,7 +84,7 @@ module _ (checked : CheckedOf) (limit : ℕ) where
         → IsLineAnswer had line (fault_line (i.Script error) ∷ []) had
     Empty : script_by checked.catalog.tables line ≡ Ok [] → IsLineAnswer had line [] had
     OneStep : (step : LineOf) (lines : List (List ℕ)) (has : SeatOf)
-        → script_by checked.catalog.tables line ≡ Ok (step ∷ []) → IsTalkTold had has step.step lines
+        → script_by checked.catalog.tables line ≡ Ok (step ∷ []) → IsStepAnswered had has step.step lines
         → StartsWith has.seen had.seen → IsLineAnswer had line lines has
 
   -- Lines other than `QUIT;` are answered one after another.
@@ -119,7 +118,7 @@ module _ (checked : CheckedOf) (limit : ℕ) where
   -- a step is answered by a text
   pub record Tells (step : StepOf) (had has : SeatOf) (text : List ℕ) : Type 0 where
     pub lines : List (List ℕ)
-    pub is : IsTalkTold had has step lines
+    pub is : IsStepAnswered had has step lines
     pub text_is : text ≡ text_of lines
     pub begins : StartsWith has.seen had.seen
 

@@ -10,7 +10,7 @@ use Rattle.senders.specs.CloseCauses.{CanCome, RefusedClose}
 use Rattle.senders.specs.Closing.{IsClosed}
 use Rattle.senders.specs.declared.close_error.CloseError.{CloseError}
 use Rattle.senders.specs.declared.close_error.CloseError.TheVariants as e
-use Rattle.senders.specs.declared.served.Served.{Served}
+use Rattle.senders.specs.Results.{ServedOf}
 use Rattle.commands.specs.Names.{counted}
 use Rattle.commands.specs.Output.{Writes}
 use Rattle.commands.specs.declared.failure.Failure.{Failure}
@@ -39,6 +39,7 @@ name_of e.CountDiffers = Some (codes "CountDiffers")
 name_of e.ReceiptMissing = Some (codes "ReceiptMissing")
 name_of e.ReadingWrong = Some (codes "ReadingWrong")
 name_of e.TakenDiffers = Some (codes "TakenDiffers")
+name_of e.ConnectionMissing = Some (codes "ConnectionMissing")
 name_of e.StartLate = Some (codes "StartLate")
 name_of e.OutOfMemory = None
 
@@ -63,7 +64,7 @@ service_of service checked lists = record {
 
 -- The lists were committed in order, or skipped, and this is the session's seat. As many connections were
 -- served as was requested, each to its end, with these results. None was refused memory.
-pub record IsOver (service : ServiceOf) (seat : SeatOf) (served : List Served) : Type 0 where
+pub record IsOver (service : ServiceOf) (seat : SeatOf) (served : List ServedOf) : Type 0 where
   pub committed : AreCommitted service.checked service.limit 1 service.lists empty_seat seat
   pub many : length served ≡ service.connections
   pub each : All (WasServed service.checked) served
@@ -72,10 +73,10 @@ pub record IsOver (service : ServiceOf) (seat : SeatOf) (served : List Served) :
 -- The last line: the publisher was closed with the session's seat, one of 1,000, and the results of the connections; or
 -- why it was not. The session has as many notes as the log has commits.
 pub data IsLast (service : ServiceOf) : List ℕ → Status → Type 0 where
-  Closed : (seat : SeatOf) (served : List Served) (book : Book) → IsOver service seat served
+  Closed : (seat : SeatOf) (served : List ServedOf) (book : Book) → IsOver service seat served
       → IsClosed service.checked service.limit (seat ∷ []) served book
       → IsLast service (closed_line (length seat.notes) (length served)) Done
-  Differs : (seat : SeatOf) (served : List Served) (error : CloseError) (name : List ℕ)
+  Differs : (seat : SeatOf) (served : List ServedOf) (error : CloseError) (name : List ℕ)
       → IsOver service seat served → RefusedClose service.checked service.limit 1000 999 (seat ∷ []) served error
       → CanCome error → name_of error ≡ Some name → IsLast service (codes "close " ++ name) Refused
 
@@ -91,7 +92,7 @@ pub record IsFor (service : ServiceOf) (checked : CheckedOf) (limit : ℕ) : Typ
 -- this line alone is written, with this status
 abbrev pub WritesLine : List ℕ → Status → Option (List ℕ) → Option (List ℕ) → Result Status Failure → Type 0
 WritesLine line status old new result =
-    Writes (λ lines told. (lines ≡ line ∷ []) × (told ≡ status)) (λ lines. lines ≡ []) old new result
+    Writes (λ lines said. (lines ≡ line ∷ []) × (said ≡ status)) (λ lines. lines ≡ []) old new result
 
 -- the lines are a last line alone
 pub record IsClosing (service : ServiceOf) (lines : List (List ℕ)) (status : Status) : Type 0 where
@@ -103,7 +104,7 @@ abbrev pub Closes : ServiceOf → Option (List ℕ) → Option (List ℕ) → Re
 Closes service old new result = Writes (IsClosing service) (λ lines. lines ≡ []) old new result
 
 -- the lines are the first line, with this port, and a last line
-pub record IsServeTold (service : ServiceOf) (lines : List (List ℕ)) (status : Status) : Type 0 where
+pub record AreServeLines (service : ServiceOf) (lines : List (List ℕ)) (status : Status) : Type 0 where
   pub line : List ℕ
   pub are : lines ≡ listening_line service.port ∷ line ∷ []
   pub last : IsLast service line status
@@ -113,7 +114,7 @@ abbrev pub IsBegun : ℕ → List (List ℕ) → Type 0
 IsBegun port lines = (lines ≡ []) ⊎ (lines ≡ listening_line port ∷ [])
 
 abbrev pub WritesServeLines : ServiceOf → Option (List ℕ) → Option (List ℕ) → Result Status Failure → Type 0
-WritesServeLines service old new result = Writes (IsServeTold service) (IsBegun service.port) old new result
+WritesServeLines service old new result = Writes (AreServeLines service) (IsBegun service.port) old new result
 
 -- it stops because the listening socket or the writer failed, or memory ran out
 abbrev pub IsStop : Failure → Type 0

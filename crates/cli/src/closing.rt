@@ -23,10 +23,10 @@ use std::sync::Arc;
 ///
 /// `Output` if the listening socket failed before all connections were accepted; `OutOfMemory`, also if a connection
 /// was refused memory or a thread.
-pub fn served_in<'a>(
+pub fn served_in<'a, P: Publishing>(
     alloc: Global,
-    places: Vec<ConnectionPlace>,
-) -> Result<Vec<Served>, Failure<'a>>
+    places: Vec<ConnectionPlace<P>>,
+) -> Result<Vec<Served<P>>, Failure<'a>>
     ensures all { IfOk result (λ served. map Ended served.items ≡ places.items) }
     ensures memory { IfOk result (λ served. All HadMemory served.items) }
     ensures stopped { IfErr result IsStop }
@@ -36,7 +36,7 @@ pub fn served_in<'a>(
         let ConnectionPlace::Ended(served) = place else {
             return Err(Failure::Output);
         };
-        if served.end == End::Link(LinkFault::OutOfMemory) {
+        if served.end() == End::Link(LinkFault::OutOfMemory) {
             return Err(Failure::OutOfMemory);
         }
         all.push(served)?;
@@ -53,6 +53,7 @@ pub(crate) fn name_of(error: CloseError) -> Option<&'static str>
         CloseError::ReceiptMissing => Some("ReceiptMissing"),
         CloseError::ReadingWrong => Some("ReadingWrong"),
         CloseError::TakenDiffers => Some("TakenDiffers"),
+        CloseError::ConnectionMissing => Some("ConnectionMissing"),
         CloseError::StartLate => Some("StartLate"),
         CloseError::OutOfMemory => None,
     }
@@ -109,7 +110,7 @@ pub fn close_and_tell<'a, P: Publishing, W: Writer, R: Eprint>(
     publisher: Publisher<P>,
     rest: Seats<P>,
     seat: Seat<P>,
-    served: Vec<Served>,
+    served: Vec<Served<P>>,
     writer: &mut W,
 ) -> Result<Status, Failure<'a>>
     requires parts { P.parts ≡ 1000 }

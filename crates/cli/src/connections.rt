@@ -13,18 +13,21 @@ use std::thread::Threads;
 use std::time::Clock;
 
 /// A place for one connection.
-#[derive(Debug, Drop)]
-pub enum ConnectionPlace {
+#[derive(Drop)]
+pub enum ConnectionPlace<P: Publishing> {
     /// No connection has ended here yet.
     Open,
     /// The result of the connection that was served here.
-    Ended(Served),
+    Ended(Served<P>),
     /// The listening socket failed before a connection came.
     Failed,
 }
 
 /// This number of places for connections.
-pub fn open_places(alloc: Global, count: usize) -> Result<Vec<ConnectionPlace>, AllocError>
+pub fn open_places<P: Publishing>(
+    alloc: Global,
+    count: usize,
+) -> Result<Vec<ConnectionPlace<P>>, AllocError>
     ensures { IfOk result (λ places. length places.items ≡ count) }
 {
     let mut places = Vec::with_capacity(alloc, count)?;
@@ -52,7 +55,7 @@ fn serve_stream<P: Publishing + Sync, R: Threads + Wait + Clock + Sync>(
     rt: &R,
     publisher: &Publisher<P>,
     stream: &TcpStream,
-) -> Served
+) -> Served<P>
     ensures { WasServed P.checked result }
 {
     let _ = stream.set_nodelay(true);
@@ -66,7 +69,7 @@ fn fill<P: Publishing + Sync, R: Threads + Wait + Clock + Sync>(
     rt: &R,
     publisher: &Publisher<P>,
     listener: &TcpListener,
-    place: &mut ConnectionPlace,
+    place: &mut ConnectionPlace<P>,
 )
     ensures { IsFilled P.checked place.new }
 {
@@ -82,7 +85,7 @@ pub fn fill_all<P: Publishing + Sync, R: Threads + Wait + Clock + Sync>(
     rt: &R,
     publisher: &Publisher<P>,
     listener: &TcpListener,
-    places: &mut [ConnectionPlace],
+    places: &mut [ConnectionPlace<P>],
 )
     ensures { All (IsFilled P.checked) places.new }
 {

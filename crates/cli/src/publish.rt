@@ -137,20 +137,21 @@ fn conduct<
 /// Answers the lines of the session in this thread, while clients are served in others.
 fn run_both<
     'a,
+    'b,
     P: Publishing + Sync,
     I: Reader,
     W: Writer,
     R: Threads + Wait + Clock + Eprint + Net<Listener = TcpListener, Stream = TcpStream> + Sync,
 >(
-    rt: &R,
-    publisher: &Publisher<P>,
+    rt: &'a R,
+    publisher: &'a Publisher<P>,
     feed: Feed<'_>,
-    doors: &Doors,
-    berths: &mut [Berth],
-    seat: &mut Seat<P>,
-    lines: &mut LineReader<I>,
-    writer: &mut W,
-) -> Result<(), Failure<'a>>
+    doors: &'a Doors,
+    berths: &'a mut [Berth<P>],
+    seat: &'a mut Seat<P>,
+    lines: &'a mut LineReader<I>,
+    writer: &'a mut W,
+) -> Result<(), Failure<'b>>
     ensures ok { OnOk result (HasAnswered P.checked P.limit (callers_at doors.now.callers) I.may_fail
         (coming I.remaining lines.old) (coming I.remaining lines.new) (W.contents writer.old) (W.contents writer.new)
         seat.old seat.new) }
@@ -205,6 +206,7 @@ fn publish<
     requires parts { opening.parts ≡ P.parts }
     requires seats { opening.parts ≡ 1000 }
     requires history { opening.history ≡ P.history }
+    requires slots { opening.slots ≡ P.slots }
     requires checked { checked_view (arc_value checked) ≡ P.checked }
     requires limit { feed.limit ≡ P.limit }
     requires within { IsLogLimit feed.limit }

@@ -16,13 +16,13 @@ use std::time::Clock;
 use table_changes::Command;
 
 /// Commits the lists in this thread, while other threads serve a connection for each place of a slice.
-fn run_in<P: Publishing + Sync, R: Threads + Wait + Clock + Sync>(
-    rt: &R,
-    publisher: &Publisher<P>,
-    seat: &mut Seat<P>,
+fn run_in<'a, P: Publishing + Sync, R: Threads + Wait + Clock + Sync>(
+    rt: &'a R,
+    publisher: &'a Publisher<P>,
+    seat: &'a mut Seat<P>,
     lists: Vec<Vec<Command>>,
-    listener: &TcpListener,
-    places: &mut [ConnectionPlace],
+    listener: &'a TcpListener,
+    places: &'a mut [ConnectionPlace<P>],
 ) -> Result<(), AllocError>
     requires { length lists.items ≤ 100000 }
     ensures committed { OnOk result (AreCommitted P.checked P.limit 1 (map list_view lists.items) seat.old seat.new) }
@@ -51,7 +51,7 @@ pub fn run_both<P: Publishing + Sync, R: Threads + Wait + Clock + Sync>(
     seat: &mut Seat<P>,
     lists: Vec<Vec<Command>>,
     listener: &TcpListener,
-    places: &mut Vec<ConnectionPlace>,
+    places: &mut Vec<ConnectionPlace<P>>,
 ) -> Result<(), AllocError>
     requires { length lists.items ≤ 100000 }
     ensures committed { OnOk result (AreCommitted P.checked P.limit 1 (map list_view lists.items) seat.old seat.new) }

@@ -48,6 +48,7 @@ fn publish<
     requires parts { opening.parts ≡ P.parts }
     requires seats { opening.parts ≡ 1000 }
     requires history { opening.history ≡ P.history }
+    requires slots { opening.slots ≡ P.slots }
     requires checked { checked_view (arc_value checked) ≡ P.checked }
     requires limit { service.limit ≡ P.limit }
     requires within { IsLogLimit service.limit }

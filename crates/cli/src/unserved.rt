@@ -18,20 +18,20 @@ fn end_of(commits: u64) -> Lsn {
 
 /// How many commits a client of the slot has or was sent: those before its start, and those that followed, unless a
 /// write failed, since then it is unknown how many of them were written. None if the connection was not for the slot.
-fn commits_sent(served: &Served, slot: SlotNumber) -> Option<u64> {
-    let start = served.start?;
-    if served.slot != Some(slot) {
+fn commits_sent<P: Publishing>(served: &Served<P>, slot: SlotNumber) -> Option<u64> {
+    let start = served.start()?;
+    if served.slot() != Some(slot) {
         return None;
     }
-    let taken = match served.end {
+    let taken = match served.end() {
         End::WriteFault => 0,
-        _ => served.taken.len() as u64,
+        _ => served.taken().len() as u64,
     };
     Some(commits_to(start).saturating_add(taken))
 }
 
 /// The most commits that a client of the slot was sent; none if no stream of the slot was started.
-fn most_sent(served: &[Served], slot: SlotNumber) -> Option<u64> {
+fn most_sent<P: Publishing>(served: &[Served<P>], slot: SlotNumber) -> Option<u64> {
     let mut most = None;
     for one in served {
         if let Some(sent) = commits_sent(one, slot) {

@@ -11,7 +11,7 @@ use Rattle.copy_frames.specs.Contents.{status_in}
 use Rattle.copy_frames.specs.declared.frame.Frame.{Frame}
 use Rattle.copy_frames.specs.declared.status.Status.{Status}
 use Rattle.copy_both.specs.Events.{read_event, status_event, headed_event, data_event, is_end, event_of}
-use Rattle.copy_both.specs.HeardFrames.{IsFirst, IsAmong, IsLater, IsBookFor, begin_with, AsksFor, AsksIfStarted, IsStartedBy, HasEnd, Terminates, Ends, HasBadFrame, IsRefusedStart, IsAnsweredStart, IsStatus, HasStatusAhead, sent_then}
+use Rattle.copy_both.specs.HeardFrames.{IsFirst, IsAmong, IsLater, IsBookFor, begin_with, AsksFor, AsksIfStarted, BooksOf, IsStartedBy, HasEnd, Terminates, Ends, HasBadFrame, IsRefusedStart, IsAnsweredStart, IsStatus, HasStatusAhead, sent_then}
 use Rattle.copy_both.specs.Hearing.{HearingOf, ServedFrom, BeginOf, Begins, Refuses, begin_by, begin_of, begun, confirmed_by, ended_by, event_heard, frame_heard, frames_heard, is_over, is_over_by, next_heard, offer_in, unless_over, with_fault}
 use Rattle.copy_both.specs.Refusals.{ExpectedQuery, error_response, state_of}
 use Rattle.copy_both.specs.StartAnswers.{Refused, asked_in, asked_of, text_of_query}
@@ -264,36 +264,36 @@ query_of served slots kind body slot start is = by_test (kind == 81)
     (if b then asked_in (offer_in served) (text_of_query body) else Refused ExpectedQuery)) no) ∙ is in cc))
 
 -- the result of all frames
-pub data Comes (checked : CheckedOf) (frames : List Frame) (reach : ℕ) (last : HearingOf) : Type 0 where
-  Comes_on : is_over last ≡ false → IsStartedBy checked frames last.started → Comes checked frames reach last
-  Comes_bad : (f : LinkFault) → HasBadFrame frames f → last.fault ≡ Some f → Comes checked frames reach last
-  Comes_refused : (state : SqlState) → IsAnsweredStart checked frames state last.response
-      → last.fault ≡ Some (fault.BadStart state) → Comes checked frames reach last
-  Comes_ahead : HasStatusAhead frames reach → last.fault ≡ Some fault.StatusAhead → Comes checked frames reach last
+pub data Comes (checked : CheckedOf) (known : BooksOf) (frames : List Frame) (reach : ℕ) (last : HearingOf) : Type 0 where
+  Comes_on : is_over last ≡ false → IsStartedBy checked known frames last.started → Comes checked known frames reach last
+  Comes_bad : (f : LinkFault) → HasBadFrame frames f → last.fault ≡ Some f → Comes checked known frames reach last
+  Comes_refused : (state : SqlState) → IsAnsweredStart checked known frames state last.response
+      → last.fault ≡ Some (fault.BadStart state) → Comes checked known frames reach last
+  Comes_ahead : HasStatusAhead frames reach → last.fault ≡ Some fault.StatusAhead → Comes checked known frames reach last
   Comes_ended : (kind : ℕ) → HasEnd frames kind → last.fault ≡ None → last.heard.ended ≡ Some kind
-      → Comes checked frames reach last
+      → Comes checked known frames reach last
 
 -- and what is known of the start
-pub record Ran (checked : CheckedOf) (frames : List Frame) (reach : ℕ) (last : HearingOf) : Type 0 where
-  pub asks : AsksIfStarted checked frames last.started
-  pub comes : Comes checked frames reach last
+pub record Ran (checked : CheckedOf) (known : BooksOf) (frames : List Frame) (reach : ℕ) (last : HearingOf) : Type 0 where
+  pub asks : AsksIfStarted checked known frames last.started
+  pub comes : Comes checked known frames reach last
 
 later_in : (frame first : Frame) (others frames : List Frame) → frames ≡ first ∷ others → IsAmong frame others
     → IsLater frame frames
 later_in frame first others frames are among =
     record { first = first; others = others; frames_are = are; among = among }
 
-from_later : (checked : CheckedOf) (first : Frame) (others frames : List Frame) (reach : ℕ) (last : HearingOf)
+from_later : (checked : CheckedOf) (known : BooksOf) (first : Frame) (others frames : List Frame) (reach : ℕ) (last : HearingOf)
     (slot start : ℕ) → frames ≡ first ∷ others
-    → AsksFor checked frames slot start → last.started ≡ Some (slot, start) → Later reach others last
-    → Ran checked frames reach last
-from_later checked first others frames reach last slot start are asks is later = record {
-  asks = subst (AsksIfStarted checked frames) (sym is) asks;
+    → AsksFor checked known frames slot start → last.started ≡ Some (slot, start) → Later reach others last
+    → Ran checked known frames reach last
+from_later checked known first others frames reach last slot start are asks is later = record {
+  asks = subst (AsksIfStarted checked known frames) (sym is) asks;
   comes = by_later later;
 }
   where
-    by_later : Later reach others last → Comes checked frames reach last
-    by_later (GoesOn going) = Comes_on going (subst (IsStartedBy checked frames) (sym is) asks)
+    by_later : Later reach others last → Comes checked known frames reach last
+    by_later (GoesOn going) = Comes_on going (subst (IsStartedBy checked known frames) (sym is) asks)
     by_later (Faulty f bad fails) =
         Comes_bad f (record {
           frame = bad.frame;
@@ -317,9 +317,9 @@ from_later checked first others frames reach last slot start are asks is later =
 
 -- ---- all frames
 
-asks_more : (checked : CheckedOf) (frames more : List Frame) (slot start : ℕ) → AsksFor checked frames slot start
-    → AsksFor checked (frames ++ more) slot start
-asks_more checked frames more slot start asks = record {
+asks_more : (checked : CheckedOf) (known : BooksOf) (frames more : List Frame) (slot start : ℕ) → AsksFor checked known frames slot start
+    → AsksFor checked known (frames ++ more) slot start
+asks_more checked known frames more slot start asks = record {
   frame = asks.frame;
   first = record {
     others = asks.first.others ++ more;
@@ -332,22 +332,22 @@ asks_more checked frames more slot start asks = record {
   begins = asks.begins;
 }
 
-pub asks_if_more : (checked : CheckedOf) (frames more : List Frame) (started : Option (ℕ × ℕ))
-    → AsksIfStarted checked frames started
-    → AsksIfStarted checked (frames ++ more) started
-asks_if_more checked frames more None asks = tt
-asks_if_more checked frames more (Some started) asks = asks_more checked frames more started.0 started.1 asks
+pub asks_if_more : (checked : CheckedOf) (known : BooksOf) (frames more : List Frame) (started : Option (ℕ × ℕ))
+    → AsksIfStarted checked known frames started
+    → AsksIfStarted checked known (frames ++ more) started
+asks_if_more checked known frames more None asks = tt
+asks_if_more checked known frames more (Some started) asks = asks_more checked known frames more started.0 started.1 asks
 
 is_first : (frame : Frame) (frames : List Frame) → IsFirst frame (frame ∷ frames)
 is_first frame frames = record { others = frames; frames_are = refl }
 
-module _ (checked : CheckedOf) (book : Book) (is_for : IsBookFor checked book) where
+module _ (checked : CheckedOf) (known : BooksOf) (book : Book) (is_for : IsBookFor checked known book) where
   abbrev lent : ServedFrom
   lent = record { checked = checked; commits = length (book_log book) }
 
   abbrev RanFrom : List Frame → Option (ℕ × ℕ) → ℕ → HearingOf → Type 0
   RanFrom frames was sent last =
-      Ran checked frames (min (sent_then was sent last.started) (end_lsn_of (length (book_log book)))) last
+      Ran checked known frames (min (sent_then was sent last.started) (end_lsn_of (length (book_log book)))) last
 
   first_begins : (frame : Frame) (frames : List Frame) (h : HearingOf) → h.started ≡ None → is_over h ≡ false
       → h.response ≡ [] → frame.kind == 88 ≡ false → (b : BeginOf) → begin_with checked book frame ≡ b
@@ -356,7 +356,7 @@ module _ (checked : CheckedOf) (book : Book) (is_for : IsBookFor checked book) w
       let next : HearingOf = begun (Begins slot start) h in
       let last : HearingOf = frames_heard lent next frames in
       let still : last.started ≡ Some (slot, start) = frames_started lent next frames (slot, start) refl in
-      let asks : AsksFor checked (frame ∷ frames) slot start = record {
+      let asks : AsksFor checked known (frame ∷ frames) slot start = record {
         frame = frame;
         first = is_first frame frames;
         query = query_of lent (book_slots book) frame.kind frame.body slot start is;
@@ -364,15 +364,15 @@ module _ (checked : CheckedOf) (book : Book) (is_for : IsBookFor checked book) w
         is = is_for;
         begins = is;
       } in
-      subst (λ (s : Option (ℕ × ℕ)). Ran checked (frame ∷ frames)
+      subst (λ (s : Option (ℕ × ℕ)). Ran checked known (frame ∷ frames)
       (min (sent_then None h.sent s) (end_lsn_of (length (book_log book)))) last) (sym still)
-      (from_later checked frame frames (frame ∷ frames) (min (first_sent start) (end_lsn_of (length (book_log book))))
+      (from_later checked known frame frames (frame ∷ frames) (min (first_sent start) (end_lsn_of (length (book_log book))))
       last slot start refl asks still
       (later_runs lent slot start frames next refl going))
   first_begins frame frames h none going silent other (Refuses refusal) is =
       let next : HearingOf = begun (Refuses refusal) h in
       let stays : frames_heard lent next frames ≡ next = over_stays lent next frames refl in
-      let refused : IsRefusedStart checked (frame ∷ frames) (state_of refusal) = record {
+      let refused : IsRefusedStart checked known (frame ∷ frames) (state_of refusal) = record {
         frame = frame;
         first = is_first frame frames;
         book = book;
@@ -383,7 +383,7 @@ module _ (checked : CheckedOf) (book : Book) (is_for : IsBookFor checked book) w
         state_is = refl;
       } in
       record {
-        asks = subst (AsksIfStarted checked (frame ∷ frames)) (sym (ap (λ (x : HearingOf). x.started) stays ∙ none)) tt;
+        asks = subst (AsksIfStarted checked known (frame ∷ frames)) (sym (ap (λ (x : HearingOf). x.started) stays ∙ none)) tt;
         comes = Comes_refused (state_of refusal) (record {
           refused = refused;
           response_is = ap (λ (x : HearingOf). x.response) stays
@@ -397,7 +397,7 @@ module _ (checked : CheckedOf) (book : Book) (is_for : IsBookFor checked book) w
       let stays : frames_heard lent (ended_by 88 h) frames ≡ ended_by 88 h =
       over_stays lent (ended_by 88 h) frames (over_by_end h.fault 88) in
       record {
-        asks = subst (AsksIfStarted checked (frame ∷ frames)) (sym (ap (λ (x : HearingOf). x.started) stays ∙ none)) tt;
+        asks = subst (AsksIfStarted checked known (frame ∷ frames)) (sym (ap (λ (x : HearingOf). x.started) stays ∙ none)) tt;
         comes =
             Comes_ended 88 (Terminates frame (is_first frame frames) is refl)
             (ap (λ (x : HearingOf). x.fault) stays ∙ fault_over h.fault h.heard.ended going)
@@ -408,8 +408,8 @@ module _ (checked : CheckedOf) (book : Book) (is_for : IsBookFor checked book) w
       → h.slots ≡ book_slots book → RanFrom frames None h.sent (frames_heard lent h frames)
   unfolding frames_heard
   first_runs [] h none going silent at = record {
-    asks = subst (AsksIfStarted checked []) (sym none) tt;
-    comes = Comes_on going (subst (IsStartedBy checked []) (sym none) refl);
+    asks = subst (AsksIfStarted checked known []) (sym none) tt;
+    comes = Comes_on going (subst (IsStartedBy checked known []) (sym none) refl);
   }
   first_runs (frame ∷ frames) h none going silent at =
       let begins : BeginOf = begin_with checked book frame in
@@ -428,7 +428,7 @@ module _ (checked : CheckedOf) (book : Book) (is_for : IsBookFor checked book) w
       (first_begins frame frames h none going silent no begins refl)))
 
   runs_by : (before frames : List Frame) (h : HearingOf) → is_over h ≡ false → h.response ≡ []
-      → h.slots ≡ book_slots book → (was : Option (ℕ × ℕ)) → h.started ≡ was → IsStartedBy checked before was
+      → h.slots ≡ book_slots book → (was : Option (ℕ × ℕ)) → h.started ≡ was → IsStartedBy checked known before was
       → RanFrom (before ++ frames) was h.sent (frames_heard lent h frames)
   runs_by before frames h going silent at None is none =
       subst (λ (x : List Frame). RanFrom (x ++ frames) None h.sent (frames_heard lent h frames)) (sym none)
@@ -436,16 +436,16 @@ module _ (checked : CheckedOf) (book : Book) (is_for : IsBookFor checked book) w
   runs_by before frames h going silent at (Some started) is asks =
       let last : HearingOf = frames_heard lent h frames in
       let reach : ℕ = min h.sent (end_lsn_of (length (book_log book))) in
-      from_later checked asks.frame (asks.first.others ++ frames) (before ++ frames) reach last started.0 started.1
+      from_later checked known asks.frame (asks.first.others ++ frames) (before ++ frames) reach last started.0 started.1
       (ap (λ (x : List Frame). x ++ frames) asks.first.frames_are)
-      (asks_more checked before frames started.0 started.1 asks)
+      (asks_more checked known before frames started.0 started.1 asks)
       (frames_started lent h frames started is)
       (later_more reach asks.first.others frames last (later_runs lent started.0 started.1 frames h is going))
 
   -- the result of frames that are heard after others
   pub runs_on : (before frames : List Frame) (h : HearingOf) → is_over h ≡ false → h.response ≡ []
-      → h.slots ≡ book_slots book → IsStartedBy checked before h.started
-      → Ran checked (before ++ frames)
+      → h.slots ≡ book_slots book → IsStartedBy checked known before h.started
+      → Ran checked known (before ++ frames)
       (min (sent_then h.started h.sent (frames_heard lent h frames).started) (end_lsn_of (length (book_log book))))
       (frames_heard lent h frames)
   runs_on before frames h going silent at started = runs_by before frames h going silent at h.started refl started

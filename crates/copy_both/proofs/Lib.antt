@@ -24,7 +24,9 @@ pub mod SessionLemmas
 pub mod ShortNames
 pub mod SkipLemmas
 pub mod SlotChanges
+pub mod StartBounds
 pub mod StartLemmas
+pub mod StartUses
 pub mod StartsReported
 pub mod StreamLemmas
 pub mod TokenLoops

@@ -14,7 +14,7 @@ use Rattle.copy_frames.specs.declared.fault.FrameFault.TheVariants as frame
 use Rattle.copy_frames.specs.declared.frame.Frame.{Frame}
 use Rattle.copy_frames.proofs.PieceLemmas.{cut_more, more_after, rest_after}
 use Rattle.copy_both.specs.Ears.{ear_checked, ear_refusal, ear_started, ear_heard, answer_in, HearLeaves, HearsPiece, Holds}
-use Rattle.copy_both.specs.HeardFrames.{TellsStart, reported_start, frames_in, IsAnswered, IsBookFor, AsksIfStarted, IsStartedBy, HasHeard, HasEnd, HasBadFrame, HasLinkFault, sent_then, reach_of, GoesOnOrEnds, Explains, HasHeardOn, LateStartsAreRequested, NothingIsHeard, PiecesAreHeard, Requests}
+use Rattle.copy_both.specs.HeardFrames.{TellsStart, reported_start, frames_in, IsAnswered, IsBookFor, BooksOf, AsksIfStarted, IsStartedBy, HasHeard, HasEnd, HasBadFrame, HasLinkFault, sent_then, reach_of, GoesOnOrEnds, Explains, HasHeardOn, LateStartsAreRequested, NothingIsHeard, PiecesAreHeard, Requests}
 use Rattle.copy_both.specs.Hearing.{HearingOf, ServedFrom, answer_by, answer_of, frames_heard, reported_heard, is_over, is_over_by, link_fault, then_fault, unless_over, with_fault}
 use Rattle.copy_both.specs.Listening.{silence, Leaves, fed, resting, part_heard}
 use Rattle.copy_both.specs.Phases.{IsReady, phase_after, phase_by}
@@ -72,18 +72,18 @@ length_fault : (f : FrameFault) (last : HearingOf) → is_over last ≡ false
 length_fault f last going = ap (λ (b : Bool). (unless_over b last (with_fault (link_fault f) last)).fault) going
 
 -- the answer if nothing went wrong
-data Answered (checked : CheckedOf) (frames : List Frame) (f : Option FrameFault) (last : HearingOf)
+data Answered (checked : CheckedOf) (known : BooksOf) (frames : List Frame) (f : Option FrameFault) (last : HearingOf)
     (ended : Option ℕ) : Type 0 where
-  Answered_on : f ≡ None → IsStartedBy checked frames last.started → ended ≡ None → Answered checked frames f last ended
-  Answered_end : (kind : ℕ) → HasEnd frames kind → ended ≡ Some kind → Answered checked frames f last ended
+  Answered_on : f ≡ None → IsStartedBy checked known frames last.started → ended ≡ None → Answered checked known frames f last ended
+  Answered_end : (kind : ℕ) → HasEnd frames kind → ended ≡ Some kind → Answered checked known frames f last ended
 
 some_is : (f : Option LinkFault) (g : LinkFault) → f ≡ Some g → f ≡ None → ⊥
 some_is f g some none = let clash : Some g ≡ None = sym some ∙ none in cc
 
-module _ (checked : CheckedOf) (frames : List Frame) (reach : ℕ) (last : HearingOf) where
-  ok_on : (f : Option FrameFault) (reported : Heard) → is_over last ≡ false → IsStartedBy checked frames last.started
+module _ (checked : CheckedOf) (known : BooksOf) (frames : List Frame) (reach : ℕ) (last : HearingOf) where
+  ok_on : (f : Option FrameFault) (reported : Heard) → is_over last ≡ false → IsStartedBy checked known frames last.started
       → answer_of (then_fault f last) ≡ Ok reported
-      → Answered checked frames f last reported.ended
+      → Answered checked known frames f last reported.ended
   ok_on None reported going started is =
       let same = (ok_faultless last.fault (reported_heard last.heard) reported is).1 in
       Answered_on refl started (sym (ap (λ (x : Heard). x.ended) same) ∙ end_over last.fault last.heard.ended going)
@@ -97,8 +97,8 @@ module _ (checked : CheckedOf) (frames : List Frame) (reach : ℕ) (last : Heari
       some_is (then_fault f last).fault g (fault_stays f last g some)
       (ok_faultless (then_fault f last).fault (reported_heard (then_fault f last).heard) reported is).0
 
-  ok_comes : (f : Option FrameFault) (reported : Heard) → Comes checked frames reach last
-      → answer_of (then_fault f last) ≡ Ok reported → Answered checked frames f last reported.ended
+  ok_comes : (f : Option FrameFault) (reported : Heard) → Comes checked known frames reach last
+      → answer_of (then_fault f last) ≡ Ok reported → Answered checked known frames f last reported.ended
   ok_comes f reported (Comes_on going started) is = ok_on f reported going started is
   ok_comes f reported (Comes_bad g bad some) is = absurd (wrong f reported g some is)
   ok_comes f reported (Comes_refused state answered some) is = absurd (wrong f reported (fault.BadStart state) some is)
@@ -108,13 +108,13 @@ module _ (checked : CheckedOf) (frames : List Frame) (reach : ℕ) (last : Heari
       let same = (ok_faultless last.fault (reported_heard last.heard) reported (sym (ap answer_of stays) ∙ is)).1 in
       Answered_end kind ends (sym (ap (λ (x : Heard). x.ended) same) ∙ some)
 
-module _ (checked : CheckedOf) (bytes : List ℕ) (reach : ℕ) (last : HearingOf) where
-  by_length : (f : FrameFault) → fault_in 65536 bytes ≡ Some f → HasLinkFault checked bytes reach (link_fault f)
+module _ (checked : CheckedOf) (known : BooksOf) (bytes : List ℕ) (reach : ℕ) (last : HearingOf) where
+  by_length : (f : FrameFault) → fault_in 65536 bytes ≡ Some f → HasLinkFault checked known bytes reach (link_fault f)
   by_length frame.BadLength is = inl is
   by_length frame.FrameTooLong is = is
   by_length frame.OutOfMemory is = tt
 
-  by_frame : (g : LinkFault) → IsEventFault g → HasBadFrame (frames_in bytes) g → HasLinkFault checked bytes reach g
+  by_frame : (g : LinkFault) → IsEventFault g → HasBadFrame (frames_in bytes) g → HasLinkFault checked known bytes reach g
   by_frame fault.FrameTooLong so bad = absurd so
   by_frame fault.BadLength so bad = inr bad
   by_frame (fault.Unexpected byte) so bad = bad
@@ -127,27 +127,27 @@ module _ (checked : CheckedOf) (bytes : List ℕ) (reach : ℕ) (last : HearingO
   same_fault f one other first second = let both : Some one ≡ Some other = sym first ∙ second in cc
 
   err_on : (f : Option FrameFault) (g : LinkFault) → fault_in 65536 bytes ≡ f → is_over last ≡ false
-      → (then_fault f last).fault ≡ Some g → HasLinkFault checked bytes reach g
+      → (then_fault f last).fault ≡ Some g → HasLinkFault checked known bytes reach g
   err_on None g is going some = absurd (some_is last.fault g some (fault_over last.fault last.heard.ended going))
   err_on (Some f) g is going some =
-      subst (HasLinkFault checked bytes reach)
+      subst (HasLinkFault checked known bytes reach)
       (same_fault (then_fault (Some f) last).fault (link_fault f) g (length_fault f last going) some)
       (by_length f is)
 
   err_comes : (f : Option FrameFault) (g : LinkFault) → fault_in 65536 bytes ≡ f
-      → Comes checked (frames_in bytes) reach last → (then_fault f last).fault ≡ Some g
-      → HasLinkFault checked bytes reach g
+      → Comes checked known (frames_in bytes) reach last → (then_fault f last).fault ≡ Some g
+      → HasLinkFault checked known bytes reach g
   err_comes f g is (Comes_on going started) some = err_on f g is going some
   err_comes f g is (Comes_bad other bad fails) some =
-      subst (HasLinkFault checked bytes reach)
+      subst (HasLinkFault checked known bytes reach)
       (same_fault (then_fault f last).fault other g (fault_stays f last other fails) some)
       (by_frame other (event_fault bad.frame other bad.fails) bad)
   err_comes f g is (Comes_refused state answered fails) some =
-      subst (HasLinkFault checked bytes reach)
+      subst (HasLinkFault checked known bytes reach)
       (same_fault (then_fault f last).fault (fault.BadStart state) g
       (fault_stays f last (fault.BadStart state) fails) some) answered.refused
   err_comes f g is (Comes_ahead says fails) some =
-      subst (HasLinkFault checked bytes reach)
+      subst (HasLinkFault checked known bytes reach)
       (same_fault (then_fault f last).fault fault.StatusAhead g (fault_stays f last fault.StatusAhead fails) some)
       says
   err_comes f g is (Comes_ended kind ends none so) some =
@@ -155,7 +155,7 @@ module _ (checked : CheckedOf) (bytes : List ℕ) (reach : ℕ) (last : HearingO
 
   -- the response to a start that is refused
   abbrev Has : LinkFault → Type 0
-  Has = IsAnswered checked (frames_in bytes) last.response
+  Has = IsAnswered checked known (frames_in bytes) last.response
 
   of_length : (f : FrameFault) → Has (link_fault f)
   of_length frame.BadLength = tt
@@ -178,7 +178,7 @@ module _ (checked : CheckedOf) (bytes : List ℕ) (reach : ℕ) (last : HearingO
       subst Has (same_fault (then_fault (Some f) last).fault (link_fault f) g (length_fault f last going) some)
       (of_length f)
 
-  answered_comes : (f : Option FrameFault) (g : LinkFault) → Comes checked (frames_in bytes) reach last
+  answered_comes : (f : Option FrameFault) (g : LinkFault) → Comes checked known (frames_in bytes) reach last
       → (then_fault f last).fault ≡ Some g → Has g
   answered_comes f g (Comes_on going started) some = answered_on f g going some
   answered_comes f g (Comes_bad other bad fails) some =
@@ -204,8 +204,8 @@ fault_response (Some f) last = same_response (is_over last) last (with_fault (li
 
 -- ---- a piece
 
-module _ (bytes piece : List ℕ) (old new : Ear) (before after : Book) (sent : ℕ)
-    (has : HasHeard (ear_checked old) bytes old) (is_for : IsBookFor (ear_checked old) before) where
+module _ (known : BooksOf) (bytes piece : List ℕ) (old new : Ear) (before after : Book) (sent : ℕ)
+    (has : HasHeard (ear_checked old) known bytes old) (is_for : IsBookFor (ear_checked old) known before) where
   abbrev all : List ℕ
   all = bytes ++ piece
 
@@ -242,9 +242,9 @@ module _ (bytes piece : List ℕ) (old new : Ear) (before after : Book) (sent : 
   abbrev reached : Option (ℕ × ℕ) → ℕ
   reached now = min (sent_then (ear_started old) sent now) (end_lsn_of (length (book_log before)))
 
-  ran : Ran (ear_checked old) (frames_in all) (reached last.started) last
-  ran = subst (λ (x : List Frame). Ran (ear_checked old) x (reached last.started) last) (sym all_frames)
-      (runs_on (ear_checked old) before is_for (frames_in bytes) (frames_of whole) start refl ready.silent refl
+  ran : Ran (ear_checked old) known (frames_in all) (reached last.started) last
+  ran = subst (λ (x : List Frame). Ran (ear_checked old) known x (reached last.started) last) (sym all_frames)
+      (runs_on (ear_checked old) known before is_for (frames_in bytes) (frames_of whole) start refl ready.silent refl
       has.started)
 
   total_started : (ear_heard old before piece sent).started ≡ last.started
@@ -252,7 +252,7 @@ module _ (bytes piece : List ℕ) (old new : Ear) (before after : Book) (sent : 
 
   hears_on : (heard : Heard) → HearsPiece old new before after piece sent (Ok heard) → heard.ended ≡ None
       → cut_fault whole ≡ None
-      → IsStartedBy (ear_checked old) (frames_in all) last.started → HasHeard (ear_checked old) all new
+      → IsStartedBy (ear_checked old) known (frames_in all) last.started → HasHeard (ear_checked old) known all new
   hears_on heard left none good started =
       let opens : phase_after (Ok heard) ≡ phase.Open = ap phase_by none in
       let rests : new.frames ≡ resting (fed old.frames piece) = subst (λ p. Holds p old new piece) opens left.holds in
@@ -261,26 +261,26 @@ module _ (bytes piece : List ℕ) (old new : Ear) (before after : Book) (sent : 
         phase_is = left.phase_is ∙ opens;
         held = ap (λ i. i.bytes) rests ∙ sym (ap rest_of cut_is ∙ rest_after (frames_in bytes) whole);
         good = all_fault ∙ good;
-        started = subst (IsStartedBy (ear_checked old) (frames_in all)) (sym (left.leaves.started ∙ total_started))
+        started = subst (IsStartedBy (ear_checked old) known (frames_in all)) (sym (left.leaves.started ∙ total_started))
             started;
       }
 
   ok_explained : (heard : Heard) → HearsPiece old new before after piece sent (Ok heard)
-      → Answered (ear_checked old) (frames_in all) (cut_fault whole) last heard.ended
-      → GoesOnOrEnds (ear_checked old) all new heard.ended
+      → Answered (ear_checked old) known (frames_in all) (cut_fault whole) last heard.ended
+      → GoesOnOrEnds (ear_checked old) known all new heard.ended
   ok_explained heard left (Answered_on good started none) =
-      subst (GoesOnOrEnds (ear_checked old) all new) (sym none) (hears_on heard left none good started)
-  ok_explained heard left (Answered_end kind ends some) = subst (GoesOnOrEnds (ear_checked old) all new) (sym some) ends
+      subst (GoesOnOrEnds (ear_checked old) known all new) (sym none) (hears_on heard left none good started)
+  ok_explained heard left (Answered_end kind ends some) = subst (GoesOnOrEnds (ear_checked old) known all new) (sym some) ends
 
   -- all of the piece was heard
   by_whole : ear_started new ≡ last.started → (result : Result Heard LinkFault)
       → TellsStart (ear_started old) (ear_started new) result
-      → Explains (ear_checked old) all new (reach_of old new before sent) result
-      → IfErr result (IsAnswered (ear_checked old) (frames_in all) (ear_refusal new))
-      → HasHeardOn (ear_checked old) all old new before sent result
+      → Explains (ear_checked old) known all new (reach_of old new before sent) result
+      → IfErr result (IsAnswered (ear_checked old) known (frames_in all) (ear_refusal new))
+      → HasHeardOn (ear_checked old) known all old new before sent result
   by_whole is result tells explains answered = record {
     stays = λ s so. is ∙ frames_started served start (frames_of whole) s so;
-    asks = subst (AsksIfStarted (ear_checked old) (frames_in all)) (sym is) ran.asks;
+    asks = subst (AsksIfStarted (ear_checked old) known (frames_in all)) (sym is) ran.asks;
     tells = tells;
     explains = explains;
     answered = answered;
@@ -299,28 +299,28 @@ module _ (bytes piece : List ℕ) (old new : Ear) (before after : Book) (sent : 
 
   err_whole : (g : LinkFault) → Leaves old.session new.session before after (ear_heard old before piece sent)
       → answer_of (ear_heard old before piece sent) ≡ Err g
-      → HasHeardOn (ear_checked old) all old new before sent (Err g)
+      → HasHeardOn (ear_checked old) known all old new before sent (Err g)
   err_whole g leaves is =
       let same : ear_started new ≡ last.started = leaves.started ∙ total_started in
       let some : (then_fault (cut_fault whole) last).fault ≡ Some g =
       err_faulty (then_fault (cut_fault whole) last).fault (reported_heard (then_fault (cut_fault whole) last).heard) g is
       in
       by_whole same (Err g) tt
-      (subst (λ (n : ℕ). HasLinkFault (ear_checked old) all n g) (reach_is same)
-      (err_comes (ear_checked old) all (reached last.started) last (cut_fault whole) g all_fault ran.comes some))
-      (subst (λ (x : List ℕ). IsAnswered (ear_checked old) (frames_in all) x g)
+      (subst (λ (n : ℕ). HasLinkFault (ear_checked old) known all n g) (reach_is same)
+      (err_comes (ear_checked old) known all (reached last.started) last (cut_fault whole) g all_fault ran.comes some))
+      (subst (λ (x : List ℕ). IsAnswered (ear_checked old) known (frames_in all) x g)
       (sym (leaves.response ∙ fault_response (cut_fault whole) last))
-      (answered_comes (ear_checked old) all (reached last.started) last (cut_fault whole) g ran.comes some))
+      (answered_comes (ear_checked old) known all (reached last.started) last (cut_fault whole) g ran.comes some))
 
   -- memory was refused after the first few frames
   err_memory : (count : ℕ)
       × Leaves old.session new.session before after (part_heard count old.session before old.frames piece sent)
-      → HasHeardOn (ear_checked old) all old new before sent (Err fault.OutOfMemory)
+      → HasHeardOn (ear_checked old) known all old new before sent (Err fault.OutOfMemory)
   err_memory (count, leaves) =
       let some : List Frame = take count (frames_of whole) in
-      let part : Ran (ear_checked old) (frames_in bytes ++ some) (reached (frames_heard served start some).started)
+      let part : Ran (ear_checked old) known (frames_in bytes ++ some) (reached (frames_heard served start some).started)
       (frames_heard served start some) =
-      runs_on (ear_checked old) before is_for (frames_in bytes) some start refl ready.silent refl has.started in
+      runs_on (ear_checked old) known before is_for (frames_in bytes) some start refl ready.silent refl has.started in
       let left : List Frame = drop count (frames_of whole) in
       let split : (frames_in bytes ++ some) ++ left ≡ frames_in all =
       append_assoc (frames_in bytes) some left
@@ -329,9 +329,9 @@ module _ (bytes piece : List ℕ) (old new : Ear) (before after : Book) (sent : 
       record {
         stays = λ s so. leaves.started ∙ frames_started served start some s so;
         asks =
-            subst (λ (x : List Frame). AsksIfStarted (ear_checked old) x (ear_started new)) split
-            (asks_if_more (ear_checked old) (frames_in bytes ++ some) left (ear_started new)
-            (subst (AsksIfStarted (ear_checked old) (frames_in bytes ++ some)) (sym leaves.started) part.asks));
+            subst (λ (x : List Frame). AsksIfStarted (ear_checked old) known x (ear_started new)) split
+            (asks_if_more (ear_checked old) known (frames_in bytes ++ some) left (ear_started new)
+            (subst (AsksIfStarted (ear_checked old) known (frames_in bytes ++ some)) (sym leaves.started) part.asks));
         tells = tt;
         explains = tt;
         answered = tt;
@@ -339,12 +339,12 @@ module _ (bytes piece : List ℕ) (old new : Ear) (before after : Book) (sent : 
 
   by_result : (result : Result Heard LinkFault)
       → Answers (λ heard. heard) reported_fault (answer_of (ear_heard old before piece sent)) result
-      → HearsPiece old new before after piece sent result → HasHeardOn (ear_checked old) all old new before sent result
+      → HearsPiece old new before after piece sent result → HasHeardOn (ear_checked old) known all old new before sent result
   by_result (Ok heard) is left =
       by_whole (left.leaves.started ∙ total_started) (Ok heard)
       (ok_tells heard (left.leaves.started ∙ total_started) is)
       (ok_explained heard left
-      (ok_comes (ear_checked old) (frames_in all) (reached last.started) last (cut_fault whole) heard ran.comes
+      (ok_comes (ear_checked old) known (frames_in all) (reached last.started) last (cut_fault whole) heard ran.comes
       is)) tt
   by_result (Err fault.OutOfMemory) is left = err_memory left.leaves
   by_result (Err fault.FrameTooLong) is left = err_whole fault.FrameTooLong left.leaves is
@@ -354,8 +354,8 @@ module _ (bytes piece : List ℕ) (old new : Ear) (before after : Book) (sent : 
   by_result (Err fault.StatusAhead) is left = err_whole fault.StatusAhead left.leaves is
   by_result (Err fault.Closed) is left = err_whole fault.Closed left.leaves is
 
-module _ (bytes piece : List ℕ) (old new : Ear) (before after : Book) (sent : ℕ)
-    (has : HasHeard (ear_checked old) bytes old) (is_for : IsBookFor (ear_checked old) before)
+module _ (known : BooksOf) (bytes piece : List ℕ) (old new : Ear) (before after : Book) (sent : ℕ)
+    (has : HasHeard (ear_checked old) known bytes old) (is_for : IsBookFor (ear_checked old) known before)
     (idle : ear_started old ≡ None) (slot at : ℕ) (started : ear_started new ≡ Some (slot, at)) (late : confirmed_at (book_slots before) slot < at) where
   abbrev first_start : HearingOf
   first_start = hearing_view old.session (silence sent) before
@@ -364,7 +364,7 @@ module _ (bytes piece : List ℕ) (old new : Ear) (before after : Book) (sent : 
   of_piece = frames_of (cut old.frames.limit (old.frames.bytes ++ piece))
 
   no_frames : frames_in bytes ≡ []
-  no_frames = subst (IsStartedBy (ear_checked old) (frames_in bytes)) idle has.started
+  no_frames = subst (IsStartedBy (ear_checked old) known (frames_in bytes)) idle has.started
 
   -- the first frames of the piece were heard
   by_some : (some left : List Frame) → some ++ left ≡ of_piece
@@ -376,7 +376,7 @@ module _ (bytes piece : List ℕ) (old new : Ear) (before after : Book) (sent : 
       (sym is ∙ started) in
       let whole : some ++ left ≡ frames_in (bytes ++ piece) =
       split ∙ sym (ap (λ (x : List Frame). x ++ of_piece) no_frames)
-      ∙ sym (all_frames bytes piece old new before after sent has is_for) in
+      ∙ sym (all_frames known bytes piece old new before after sent has is_for) in
       subst (λ (x : List Frame). Requests x slot at) whole (requests_more some left slot at heard)
 
   by_all : Leaves old.session new.session before after (ear_heard old before piece sent)
@@ -400,36 +400,51 @@ module _ (bytes piece : List ℕ) (old new : Ear) (before after : Book) (sent : 
   requested_by (Err fault.Closed) left = by_all left.leaves
 
 pub late_starts_are_requested : LateStartsAreRequested
-late_starts_are_requested checked bytes piece old new before after sent result has is_for left idle slot start started
-    late =
-    let own : HasHeard (ear_checked old) bytes old = subst (λ (k : CheckedOf). HasHeard k bytes old)
+late_starts_are_requested checked known bytes piece old new before after sent result has is_for left idle slot start
+    started late =
+    let own : HasHeard (ear_checked old) known bytes old = subst (λ (k : CheckedOf). HasHeard k known bytes old)
     (sym has.checked_is) has in
-    let lent : IsBookFor (ear_checked old) before = subst (λ (k : CheckedOf). IsBookFor k before)
+    let lent : IsBookFor (ear_checked old) known before = subst (λ (k : CheckedOf). IsBookFor k known before)
     (sym has.checked_is) is_for in
-    requested_by bytes piece old new before after sent own lent idle slot start started late result
+    requested_by known bytes piece old new before after sent own lent idle slot start started late result
     (subst (λ p. HearLeaves p old new before after piece sent result) has.phase_is left)
 
--- a request stays the first frame's, whatever bytes follow
-pub requests_stay : (checked : CheckedOf) (bytes more : List ℕ) (ear : Ear) (slot position : ℕ)
-    → HasHeard checked bytes ear → Requests (frames_in bytes) slot position
-    → Requests (frames_in (bytes ++ more)) slot position
-requests_stay checked bytes more ear slot position has requests =
-    let longer : frames_in (bytes ++ more)
-    ≡ frames_in bytes ++ frames_of (cut 65536 (rest_of (cut 65536 bytes) ++ more)) =
+-- whatever bytes follow, the frames that were heard come first
+frames_more : (checked : CheckedOf) (known : BooksOf) (bytes more : List ℕ) (ear : Ear) → HasHeard checked known bytes ear
+    → frames_in (bytes ++ more) ≡ frames_in bytes ++ frames_of (cut 65536 (rest_of (cut 65536 bytes) ++ more))
+frames_more checked known bytes more ear has =
     ap frames_of (cut_more 65536 bytes more has.good ∙ more_after 65536 more (cut 65536 bytes) has.good)
-    ∙ frames_after (frames_in bytes) (cut 65536 (rest_of (cut 65536 bytes) ++ more)) in
-    subst (λ (x : List Frame). Requests x slot position) (sym longer)
+    ∙ frames_after (frames_in bytes) (cut 65536 (rest_of (cut 65536 bytes) ++ more))
+
+pub requests_stay : (checked : CheckedOf) (known : BooksOf) (bytes more : List ℕ) (ear : Ear) (slot position : ℕ)
+    → HasHeard checked known bytes ear → Requests (frames_in bytes) slot position
+    → Requests (frames_in (bytes ++ more)) slot position
+requests_stay checked known bytes more ear slot position has requests =
+    subst (λ (x : List Frame). Requests x slot position) (sym (frames_more checked known bytes more ear has))
     (requests_more (frames_in bytes) (frames_of (cut 65536 (rest_of (cut 65536 bytes) ++ more))) slot position requests)
 
+starts_asked : (checked : CheckedOf) (known : BooksOf) (frames : List Frame) (started : Option (ℕ × ℕ))
+    → IsStartedBy checked known frames started → AsksIfStarted checked known frames started
+starts_asked checked known frames None by = tt
+starts_asked checked known frames (Some started) by = by
+
+pub asks_stay : (checked : CheckedOf) (known : BooksOf) (bytes more : List ℕ) (ear : Ear)
+    → HasHeard checked known bytes ear → AsksIfStarted checked known (frames_in (bytes ++ more)) (ear_started ear)
+asks_stay checked known bytes more ear has =
+    subst (λ (x : List Frame). AsksIfStarted checked known x (ear_started ear))
+    (sym (frames_more checked known bytes more ear has))
+    (asks_if_more checked known (frames_in bytes) (frames_of (cut 65536 (rest_of (cut 65536 bytes) ++ more)))
+    (ear_started ear) (starts_asked checked known (frames_in bytes) (ear_started ear) has.started))
+
 pub pieces_are_heard : PiecesAreHeard
-pieces_are_heard checked bytes piece old new before after sent result has is_for answer left =
-    let Goal : CheckedOf → Type 0 = λ k. HasHeard k bytes old → IsBookFor k before
-    → HasHeardOn k (bytes ++ piece) old new before sent result in
-    let own : Goal (ear_checked old) = λ known lent.
-    by_result bytes piece old new before after sent known lent result
+pieces_are_heard checked known bytes piece old new before after sent result has is_for answer left =
+    let Goal : CheckedOf → Type 0 = λ k. HasHeard k known bytes old → IsBookFor k known before
+    → HasHeardOn k known (bytes ++ piece) old new before sent result in
+    let own : Goal (ear_checked old) = λ heard lent.
+    by_result known bytes piece old new before after sent heard lent result
     (subst (λ p. Answers (λ heard. heard) reported_fault (answer_in p (ear_heard old before piece sent)) result)
-    known.phase_is answer)
-    (subst (λ p. HearLeaves p old new before after piece sent result) known.phase_is left) in
+    heard.phase_is answer)
+    (subst (λ p. HearLeaves p old new before after piece sent result) heard.phase_is left) in
     subst Goal has.checked_is own has is_for
 
 nothing_rests : rest_of (cut 65536 []) ≡ []
@@ -445,10 +460,10 @@ unfolding cut
 nothing_cut = refl
 
 pub nothing_is_heard : NothingIsHeard
-nothing_is_heard ear opens none held = record {
+nothing_is_heard known ear opens none held = record {
   checked_is = refl;
   phase_is = opens;
   held = held ∙ sym nothing_rests;
   good = nothing_wrong;
-  started = subst (IsStartedBy (ear_checked ear) (frames_in [])) (sym none) nothing_cut;
+  started = subst (IsStartedBy (ear_checked ear) known (frames_in [])) (sym none) nothing_cut;
 }

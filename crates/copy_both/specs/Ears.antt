@@ -4,7 +4,7 @@ use Rattle.std.specs.Prelude.{◌≡◌, ℕ, List, ◌++◌, Option, Some, None
 use Rattle.shard_checker.specs.CheckedView.{CheckedOf}
 use Rattle.tables_log.specs.BookView.{book_slots}
 use Rattle.tables_log.specs.Committing.{ChangesSlots, IsKept}
-use Rattle.tables_log.specs.Slots.{released}
+use Rattle.tables_log.specs.Slots.{KeepsUse, TakesUse, released}
 use Rattle.tables_log.specs.declared.book.Book.{Book}
 use Rattle.tables_log.specs.declared.slots.Slot.{Slot}
 use Rattle.copy_both.specs.Hearing.{HearingOf, answer_of}
@@ -134,3 +134,17 @@ HearingChangesSlots =
 abbrev pub LosingChangesSlots : Type 0
 LosingChangesSlots = (old new : Ear) (before after : Book) → Loses old new before after
     → ChangesSlots before after (book_slots after)
+
+-- ---- a law: which slots are in use
+
+-- a stream that starts takes a slot that was free, and nothing else that is heard changes which are in use
+abbrev pub ChangesUse : Option (ℕ × ℕ) → Option (ℕ × ℕ) → List Slot → List Slot → Type 0
+ChangesUse (Some started) now old new = KeepsUse old new
+ChangesUse None None old new = KeepsUse old new
+ChangesUse None (Some started) old new = TakesUse old new started.0
+
+abbrev pub StartsTakeSlots : Type 0
+StartsTakeSlots =
+    (old new : Ear) (before after : Book) (piece : List ℕ) (sent : ℕ) (result : Result Heard LinkFault)
+    → HearLeaves (ear_phase old) old new before after piece sent result
+    → ChangesUse (ear_started old) (ear_started new) (book_slots before) (book_slots after)

@@ -1,12 +1,12 @@
 -- What an ear has heard of all bytes since its first, in whatever pieces they came: which frame started the stream,
 -- which has a fault, and which ended the connection ("55.4. Streaming Replication Protocol", "55.7. Message
 -- Formats").
-use Rattle.std.specs.Prelude.{◌≡◌, ◌<◌, ◌⊎◌, ℕ, ◌==◌, min, true, false, List, [], ◌∷◌, ◌++◌, length, slice_get, Option, Some, None, Result, Ok, Err, IfErr}
+use Rattle.std.specs.Prelude.{◌≡◌, ◌<◌, ◌⊎◌, ℕ, ◌==◌, min, Bool, true, false, List, [], ◌∷◌, ◌++◌, Contains, length, slice_get, Option, Some, None, Result, Ok, Err, IfErr}
 use Rattle.filter_tree.specs.Memory.{Answers}
 use Rattle.shard_checker.specs.CheckedView.{CheckedOf}
 use Rattle.tables_log.specs.BookView.{book_checked, book_log, book_slots}
 use Rattle.tables_log.specs.Lsn.{end_lsn_of}
-use Rattle.tables_log.specs.Slots.{confirmed_at}
+use Rattle.tables_log.specs.Slots.{AreInUse, confirmed_at}
 use Rattle.tables_log.specs.StandsFor.{Transaction, StandsFor}
 use Rattle.tables_log.specs.declared.book.Book.{Book}
 use Rattle.copy_frames.specs.Contents.{status_in}
@@ -51,11 +51,26 @@ pub record IsLater (frame : Frame) (frames : List Frame) : Type 0 where
 
 -- ---- the start
 
--- the book is of the checked catalog and of some list of transactions
-pub record IsBookFor (checked : CheckedOf) (book : Book) : Type 0 where
+-- which books a publisher has had: their transactions are a beginning of this log, and the slots that streams used are
+-- those by one of these tests of a slot's number
+pub record BooksOf : Type 0 where
+  pub log : List Transaction
+  pub uses : List (ℕ → Bool)
+
+-- the first transactions of the log
+pub record IsBeginning (log transactions : List Transaction) : Type 0 where
+  pub later : List Transaction
+  pub log_is : log ≡ transactions ++ later
+
+-- the book is of the checked catalog, and is one of those that the publisher has had
+pub record IsBookFor (checked : CheckedOf) (known : BooksOf) (book : Book) : Type 0 where
   pub named : book_checked book ≡ checked
   pub transactions : List Transaction
   pub stands : StandsFor book transactions
+  pub begins : IsBeginning known.log transactions
+  pub used : ℕ → Bool
+  pub among : Contains known.uses used
+  pub slots_are : AreInUse used (book_slots book)
 
 -- whether the book starts the stream that the frame requests: at the requested position, or at the slot's confirmed one
 -- if that is later
@@ -64,12 +79,12 @@ begin_with checked book frame =
     begin_of (record { checked = checked; commits = length (book_log book) }) (book_slots book) frame.kind frame.body
 
 -- the first frame is a Query by which the publisher's book, as it was then, starts the stream of this slot here
-pub record AsksFor (checked : CheckedOf) (frames : List Frame) (slot start : ℕ) : Type 0 where
+pub record AsksFor (checked : CheckedOf) (known : BooksOf) (frames : List Frame) (slot start : ℕ) : Type 0 where
   pub frame : Frame
   pub first : IsFirst frame frames
   pub query : frame.kind ≡ 81
   pub book : Book
-  pub is : IsBookFor checked book
+  pub is : IsBookFor checked known book
   pub begins : begin_with checked book frame ≡ Begins slot start
 
 -- the first frame requests the stream of this slot from this position on
@@ -79,22 +94,22 @@ pub record Requests (frames : List Frame) (slot position : ℕ) : Type 0 where
   pub offer : OfferOf
   pub asks : asked_of offer frame.kind frame.body ≡ Stream slot position
 
-abbrev pub AsksIfStarted : CheckedOf → List Frame → Option (ℕ × ℕ) → Type 0
-AsksIfStarted checked frames None = Unit {0}
-AsksIfStarted checked frames (Some started) = AsksFor checked frames started.0 started.1
+abbrev pub AsksIfStarted : CheckedOf → BooksOf → List Frame → Option (ℕ × ℕ) → Type 0
+AsksIfStarted checked known frames None = Unit {0}
+AsksIfStarted checked known frames (Some started) = AsksFor checked known frames started.0 started.1
 
 -- before the start there is no whole frame
-abbrev pub IsStartedBy : CheckedOf → List Frame → Option (ℕ × ℕ) → Type 0
-IsStartedBy checked frames None = frames ≡ []
-IsStartedBy checked frames (Some started) = AsksFor checked frames started.0 started.1
+abbrev pub IsStartedBy : CheckedOf → BooksOf → List Frame → Option (ℕ × ℕ) → Type 0
+IsStartedBy checked known frames None = frames ≡ []
+IsStartedBy checked known frames (Some started) = AsksFor checked known frames started.0 started.1
 
 -- an ear that has heard these bytes, and still hears
-pub record HasHeard (checked : CheckedOf) (bytes : List ℕ) (ear : Ear) : Type 0 where
+pub record HasHeard (checked : CheckedOf) (known : BooksOf) (bytes : List ℕ) (ear : Ear) : Type 0 where
   pub checked_is : ear_checked ear ≡ checked
   pub phase_is : ear_phase ear ≡ phase.Open
   pub held : ear_held ear ≡ rest_of (cut 65536 bytes)
   pub good : fault_in 65536 bytes ≡ None
-  pub started : IsStartedBy checked (frames_in bytes) (ear_started ear)
+  pub started : IsStartedBy checked known (frames_in bytes) (ear_started ear)
 
 -- ---- the end
 
@@ -112,26 +127,27 @@ pub record HasBadFrame (frames : List Frame) (f : LinkFault) : Type 0 where
   pub fails : event_of frame.kind frame.body ≡ Err f
 
 -- the first frame is not Terminate, `X`, and its start is refused with this by the publisher's book, as it was then
-pub record IsRefusedStart (checked : CheckedOf) (frames : List Frame) (state : SqlState) : Type 0 where
-  pub frame : Frame
-  pub first : IsFirst frame frames
-  pub book : Book
-  pub is : IsBookFor checked book
-  pub refusal : RefusalOf
-  pub no_end : frame.kind == 88 ≡ false
-  pub refuses : begin_with checked book frame ≡ Refuses refusal
-  pub state_is : state_of refusal ≡ state
+pub record IsRefusedStart (checked : CheckedOf) (known : BooksOf) (frames : List Frame) (state : SqlState) : Type 0
+  where
+    pub frame : Frame
+    pub first : IsFirst frame frames
+    pub book : Book
+    pub is : IsBookFor checked known book
+    pub refusal : RefusalOf
+    pub no_end : frame.kind == 88 ≡ false
+    pub refuses : begin_with checked book frame ≡ Refuses refusal
+    pub state_is : state_of refusal ≡ state
 
 -- this is the ErrorResponse of its refusal
-pub record IsAnsweredStart (checked : CheckedOf) (frames : List Frame) (state : SqlState) (response : List ℕ) : Type 0
-  where
-    pub refused : IsRefusedStart checked frames state
-    pub response_is : response ≡ error_response refused.refusal
+pub record IsAnsweredStart (checked : CheckedOf) (known : BooksOf) (frames : List Frame) (state : SqlState)
+    (response : List ℕ) : Type 0 where
+  pub refused : IsRefusedStart checked known frames state
+  pub response_is : response ≡ error_response refused.refusal
 
 -- a start that is refused has this response
-abbrev pub IsAnswered : CheckedOf → List Frame → List ℕ → LinkFault → Type 0
-IsAnswered checked frames response (fault.BadStart state) = IsAnsweredStart checked frames state response
-IsAnswered checked frames response other = Unit {0}
+abbrev pub IsAnswered : CheckedOf → BooksOf → List Frame → List ℕ → LinkFault → Type 0
+IsAnswered checked known frames response (fault.BadStart state) = IsAnsweredStart checked known frames state response
+IsAnswered checked known frames response other = Unit {0}
 
 -- CopyData, `d`, with `r` and this status
 pub record IsStatus (frame : Frame) (status : Status) : Type 0 where
@@ -148,15 +164,15 @@ pub record HasStatusAhead (frames : List Frame) (reach : ℕ) : Type 0 where
   pub ahead : reach < status.flushed
 
 -- what a fault says about the bytes, if statuses may confirm up to here
-abbrev pub HasLinkFault : CheckedOf → List ℕ → ℕ → LinkFault → Type 0
-HasLinkFault checked bytes reach fault.FrameTooLong = fault_in 65536 bytes ≡ Some frame.FrameTooLong
-HasLinkFault checked bytes reach fault.BadLength =
+abbrev pub HasLinkFault : CheckedOf → BooksOf → List ℕ → ℕ → LinkFault → Type 0
+HasLinkFault checked known bytes reach fault.FrameTooLong = fault_in 65536 bytes ≡ Some frame.FrameTooLong
+HasLinkFault checked known bytes reach fault.BadLength =
     (fault_in 65536 bytes ≡ Some frame.BadLength) ⊎ HasBadFrame (frames_in bytes) fault.BadLength
-HasLinkFault checked bytes reach (fault.Unexpected byte) = HasBadFrame (frames_in bytes) (fault.Unexpected byte)
-HasLinkFault checked bytes reach (fault.BadStart state) = IsRefusedStart checked (frames_in bytes) state
-HasLinkFault checked bytes reach fault.StatusAhead = HasStatusAhead (frames_in bytes) reach
-HasLinkFault checked bytes reach fault.Closed = ⊥
-HasLinkFault checked bytes reach fault.OutOfMemory = Unit {0}
+HasLinkFault checked known bytes reach (fault.Unexpected byte) = HasBadFrame (frames_in bytes) (fault.Unexpected byte)
+HasLinkFault checked known bytes reach (fault.BadStart state) = IsRefusedStart checked known (frames_in bytes) state
+HasLinkFault checked known bytes reach fault.StatusAhead = HasStatusAhead (frames_in bytes) reach
+HasLinkFault checked known bytes reach fault.Closed = ⊥
+HasLinkFault checked known bytes reach fault.OutOfMemory = Unit {0}
 
 -- the sent position that statuses are checked against, by what was started before and after a piece
 abbrev pub sent_then : Option (ℕ × ℕ) → ℕ → Option (ℕ × ℕ) → ℕ
@@ -170,13 +186,13 @@ reach_of old new book sent =
 
 -- ---- a piece
 
-abbrev pub GoesOnOrEnds : CheckedOf → List ℕ → Ear → Option ℕ → Type 0
-GoesOnOrEnds checked bytes ear None = HasHeard checked bytes ear
-GoesOnOrEnds checked bytes ear (Some kind) = HasEnd (frames_in bytes) kind
+abbrev pub GoesOnOrEnds : CheckedOf → BooksOf → List ℕ → Ear → Option ℕ → Type 0
+GoesOnOrEnds checked known bytes ear None = HasHeard checked known bytes ear
+GoesOnOrEnds checked known bytes ear (Some kind) = HasEnd (frames_in bytes) kind
 
-abbrev pub Explains : CheckedOf → List ℕ → Ear → ℕ → Result Heard LinkFault → Type 0
-Explains checked bytes ear reach (Ok heard) = GoesOnOrEnds checked bytes ear heard.ended
-Explains checked bytes ear reach (Err f) = HasLinkFault checked bytes reach f
+abbrev pub Explains : CheckedOf → BooksOf → List ℕ → Ear → ℕ → Result Heard LinkFault → Type 0
+Explains checked known bytes ear reach (Ok heard) = GoesOnOrEnds checked known bytes ear heard.ended
+Explains checked known bytes ear reach (Err f) = HasLinkFault checked known bytes reach f
 
 -- the start that is reported for a piece: that of the stream that it started
 abbrev pub reported_start : Option (ℕ × ℕ) → Option (ℕ × ℕ) → Option ℕ
@@ -190,32 +206,32 @@ TellsStart was now (Err f) = Unit {0}
 
 -- with the piece the ear has heard these bytes: a stream that started stays so, one is started as its command requests
 -- and reported, the answer is explained by the bytes, and a start that is refused has its response
-pub record HasHeardOn (checked : CheckedOf) (bytes : List ℕ) (old new : Ear) (before : Book) (sent : ℕ)
-    (result : Result Heard LinkFault) : Type 0 where
+pub record HasHeardOn (checked : CheckedOf) (known : BooksOf) (bytes : List ℕ) (old new : Ear) (before : Book)
+    (sent : ℕ) (result : Result Heard LinkFault) : Type 0 where
   pub stays : (started : ℕ × ℕ) → ear_started old ≡ Some started → ear_started new ≡ Some started
-  pub asks : AsksIfStarted checked (frames_in bytes) (ear_started new)
+  pub asks : AsksIfStarted checked known (frames_in bytes) (ear_started new)
   pub tells : TellsStart (ear_started old) (ear_started new) result
-  pub explains : Explains checked bytes new (reach_of old new before sent) result
-  pub answered : IfErr result (IsAnswered checked (frames_in bytes) (ear_refusal new))
+  pub explains : Explains checked known bytes new (reach_of old new before sent) result
+  pub answered : IfErr result (IsAnswered checked known (frames_in bytes) (ear_refusal new))
 
 -- ---- laws
 
 abbrev pub NothingIsHeard : Type 0
-NothingIsHeard = (ear : Ear) → ear_phase ear ≡ phase.Open → ear_started ear ≡ None → ear_held ear ≡ []
-    → HasHeard (ear_checked ear) [] ear
+NothingIsHeard = (known : BooksOf) (ear : Ear) → ear_phase ear ≡ phase.Open → ear_started ear ≡ None → ear_held ear ≡ []
+    → HasHeard (ear_checked ear) known [] ear
 
 abbrev pub PiecesAreHeard : Type 0
-PiecesAreHeard = (checked : CheckedOf) (bytes piece : List ℕ) (old new : Ear) (before after : Book) (sent : ℕ)
-    (result : Result Heard LinkFault)
-    → HasHeard checked bytes old → IsBookFor checked before
+PiecesAreHeard = (checked : CheckedOf) (known : BooksOf) (bytes piece : List ℕ) (old new : Ear) (before after : Book)
+    (sent : ℕ) (result : Result Heard LinkFault)
+    → HasHeard checked known bytes old → IsBookFor checked known before
     → Answers (λ heard. heard) reported_fault (hear_answer old before piece sent) result
     → HearLeaves (ear_phase old) old new before after piece sent result
-    → HasHeardOn checked (bytes ++ piece) old new before sent result
+    → HasHeardOn checked known (bytes ++ piece) old new before sent result
 
 -- with the piece a stream starts, after the position up to which its slot was confirmed: that is the requested one
 abbrev pub LateStartsAreRequested : Type 0
-LateStartsAreRequested = (checked : CheckedOf) (bytes piece : List ℕ) (old new : Ear) (before after : Book) (sent : ℕ)
-    (result : Result Heard LinkFault) → HasHeard checked bytes old → IsBookFor checked before
+LateStartsAreRequested = (checked : CheckedOf) (known : BooksOf) (bytes piece : List ℕ) (old new : Ear)
+    (before after : Book) (sent : ℕ) (result : Result Heard LinkFault) → HasHeard checked known bytes old → IsBookFor checked known before
     → HearLeaves (ear_phase old) old new before after piece sent result
     → ear_started old ≡ None → (slot start : ℕ) → ear_started new ≡ Some (slot, start)
     → confirmed_at (book_slots before) slot < start → Requests (frames_in (bytes ++ piece)) slot start

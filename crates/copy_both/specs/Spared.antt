@@ -15,4 +15,5 @@ IsSpared owners Closed = ⊥
 
 -- by both plans, the same subscribers get something from each change
 abbrev pub RouteAlike : PlanOf → PlanOf → Type 0
-RouteAlike one other = (subscriber : ℕ) (change : ChangeOf) → is_for one subscriber change ≡ is_for other subscriber change
+RouteAlike one other = (subscriber : ℕ) (change : ChangeOf)
+    → is_for one subscriber change ≡ is_for other subscriber change

@@ -1,6 +1,6 @@
 //! Laws about streams.
 
-ghost use Rattle.copy_both.specs.Ears.{HearingChangesSlots, LosingChangesSlots};
+ghost use Rattle.copy_both.specs.Ears.{HearingChangesSlots, LosingChangesSlots, StartsTakeSlots};
 ghost use Rattle.copy_both.specs.HeardFrames.{LateStartsAreRequested, NothingIsHeard, PiecesAreHeard};
 ghost use Rattle.copy_both.specs.LinkLaws as links;
 ghost use Rattle.copy_both.specs.SeenStreams.{StreamsTellTransactions};
@@ -70,10 +70,12 @@ pub fn voices_say_streams()
     ensures rest { voices.RestPassesOn }
 {}
 
-/// A law about what an ear leaves of a book: whatever it hears, and when it is lost, only slots change.
+/// A law about what an ear leaves of a book: whatever it hears, and when it is lost, only slots change. A stream that
+/// starts takes a slot that was free, and nothing else that is heard changes which slots are in use (`uses`).
 pub fn ears_change_slots()
     ensures hear { HearingChangesSlots }
     ensures lose { LosingChangesSlots }
+    ensures uses { StartsTakeSlots }
 {}
 
 /// A law about what an ear has heard in all bytes since its first, in whatever pieces they came. The ear holds what
@@ -82,7 +84,8 @@ pub fn ears_change_slots()
 /// is later. So a stream that starts after the confirmed position starts at the requested one (`requested`). A start
 /// remains, and is reported once. A fault is that of a length, of the first frame's start, or of a later frame; and an
 /// end is that of a frame of this kind. A start that is refused has the ErrorResponse of its refusal. The law holds for
-/// books of the checked catalog, each of which is that of some transactions.
+/// books of the checked catalog that are among those that a publisher has had (`BooksOf`): each is that of a beginning
+/// of the log, and its slots were in use as they were at some time.
 ///
 /// PostgreSQL 15, 55.4. Streaming Replication Protocol, and 55.7. Message Formats.
 pub fn frames_are_heard()

@@ -18,6 +18,9 @@ use Rattle.publisher_desk.specs.contracts.connection_state.ConnectionState as W
 use Rattle.publisher_desk.specs.contracts.seat.Seat as Se
 use Rattle.publisher_desk.proofs.history.History.TheSendSync as HS
 use Rattle.publisher_desk.proofs.seat.Seat.TheSendSync as SeS
+use Rattle.publisher_desk.proofs.slot_history.SlotHistory.TheSendSync as SHS
+use Rattle.publisher_desk.proofs.viewer.Viewer.TheSendSync as ViS
+use Rattle.publisher_desk.specs.contracts.viewer.Viewer as Vi
 
 connection_send : IsSend W.the_row
 connection_send = search sendable depth 60
@@ -32,7 +35,7 @@ module _ (Q : RattleType) (p : pub_.Ghosts Q.Denot) (l : led.Ghosts Q.Denot) whe
         book_field_send,
         (
           LB.the_send Q l,
-          (Vec-send W.the_row connection_send, (search sendable, (HS.the_send Q p l, tt))),
+          (Vec-send W.the_row connection_send, (search sendable, (HS.the_send Q p l, (SHS.the_send Q p l, tt)))),
         ),
       )))
 
@@ -51,3 +54,6 @@ module _ (Q : RattleType) (p : pub_.Ghosts Q.Denot) (l : led.Ghosts Q.Denot) whe
 
   pub seat_send : IsSend (Se.the_row Q p l)
   seat_send = SeS.the_send Q p l
+
+  pub viewer_send : IsSend (Vi.the_row Q p l)
+  viewer_send = ViS.the_send Q p l

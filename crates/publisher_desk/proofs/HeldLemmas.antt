@@ -16,6 +16,7 @@ use Rattle.tables_log.specs.Commits.{CommitOf}
 use Rattle.tables_log.specs.Logs.{entry_at}
 use Rattle.tables_log.specs.Routes.{gets_some}
 use Rattle.tables_log.specs.Lsn.{end_lsn_of}
+use Rattle.tables_log.specs.Slots.{AreInUse, KeepsUse}
 use Rattle.tables_log.specs.StandsFor.{Transaction, AreAccepted, StandsFor, after}
 use Rattle.tables_log.specs.declared.book.Book.{Book}
 use Rattle.tables_log.specs.declared.error.CommitError.{CommitError}
@@ -23,13 +24,17 @@ use Rattle.tables_log.specs.declared.error.CommitError.TheVariants as e
 use Rattle.tables_log.specs.declared.slots.Slot.{Slot}
 use Rattle.tables_log.proofs.StandLemmas.{new_stands, each_is_logged, commits_add_one, slots_keep_it}
 use Rattle.publisher_desk.specs.Answers.{IsMade, IsRefusedAfter}
-use Rattle.publisher_desk.specs.Held.{IsLogOf, AddsEntry, IsBookOf, IsHeldFor}
+use Rattle.publisher_desk.specs.Held.{IsLogOf, AddsEntry, AreEventsOf, IsBookOf, IsHeldFor}
 use Rattle.publisher_desk.specs.Logged.{IsHistoryOf, Refuses}
 use Rattle.publisher_desk.specs.Receipts.{ReceiptOf, receipt_of, transactions_of}
 use Rattle.publisher_desk.specs.Sights.{AddsTo, Sees, view_of}
+use Rattle.publisher_desk.specs.SlotEvents.{use_after}
+use Rattle.publisher_desk.specs.SlotSights.{slot_view}
 use Rattle.publisher_desk.specs.declared.sight.Sight.{Sight}
 use Rattle.publisher_desk.specs.declared.sight.HistoryView.{HistoryView}
 use Rattle.publisher_desk.specs.declared.connection_state.ConnectionState.{ConnectionState}
+use Rattle.publisher_desk.specs.declared.slot_sight.SlotView.{SlotView}
+use Rattle.tables_log.proofs.SlotUses.{new_unused}
 
 sent_longer : (connections : List ConnectionState) (commits more : ℕ) → commits ≤ more
     → All (λ (connection : ConnectionState). connection.sent ≤ end_lsn_of commits) connections
@@ -47,10 +52,12 @@ log_of checked book transactions named stands =
 
 pub new_held : (one checked : CheckedOf) (book : Book) (limit most total count : ℕ) (idle : ConnectionState)
     (connections : List ConnectionState)
-    (history : HistoryView) → IsNew book one limit → one ≡ checked → limit ≡ most → total ≡ 0
+    (history : HistoryView) (events : SlotView) → IsNew book one limit → one ≡ checked → limit ≡ most → total ≡ 0
     → idle.sent ≡ 0 → connections ≡ replicate count idle → count ≡ length checked.catalog.subscriptions
-    → history ≡ view_of true [] [] → IsHeldFor checked most book total connections history
-new_held one checked book limit most total count idle connections history new same bound none unsent all long empty =
+    → history ≡ view_of true [] [] → events ≡ slot_view true [] []
+    → IsHeldFor checked most book total connections history events
+new_held one checked book limit most total count idle connections history events new same bound none unsent all long
+    empty eventless =
     let stands : StandsFor book [] = new_stands book one limit new in
     record {
       is = record {
@@ -65,14 +72,17 @@ new_held one checked book limit most total count idle connections history new sa
           (All-replicate (λ (c : ConnectionState). c.sent ≤ end_lsn_of (length (book_log book))) count idle
           (omega (arith, unsent)));
       history_is = subst (IsHistoryOf book) (sym empty) (record { stands = stands; idle = refl });
+      events_are = subst (AreEventsOf book) (sym eventless) (record { used = new_unused book one limit new; idle = refl });
     }
 
 pub commit_held : (checked : CheckedOf) (limit : ℕ) (old new : Book) (commands : List Command)
-    (time number total more : ℕ) (connections : List ConnectionState) (history longer : HistoryView)
+    (time number total more : ℕ) (connections : List ConnectionState) (history longer : HistoryView) (events : SlotView)
     → Commits old new commands time number
     → more ≡ total + 1 → IsHistoryOf new longer
-    → IsHeldFor checked limit old total connections history → IsHeldFor checked limit new more connections longer
-commit_held checked limit old new commands time number total more connections history longer commits one of_new held =
+    → IsHeldFor checked limit old total connections history events
+    → IsHeldFor checked limit new more connections longer events
+commit_held checked limit old new commands time number total more connections history longer events commits one of_new
+    held =
     let count : length (book_log new) ≡ length (book_log old) + 1 = ap length commits.log
     ∙ length-append (book_log old) _ in
     record {
@@ -86,13 +96,18 @@ commit_held checked limit old new commands time number total more connections hi
       slots = held.slots;
       sent = sent_longer connections (length (book_log old)) (length (book_log new)) (omega (arith, count)) held.sent;
       history_is = of_new;
+      events_are = record {
+        used = subst (AreInUse (use_after events.all)) (sym commits.slots) held.events_are.used;
+        idle = held.events_are.idle;
+      };
     }
 
 slots_held : (checked : CheckedOf) (limit : ℕ) (old new : Book) (slots : List Slot) (total : ℕ)
     (connections : List ConnectionState)
-    (history : HistoryView) → ChangesSlots old new slots
-    → IsHeldFor checked limit old total connections history → IsHeldFor checked limit new total connections history
-slots_held checked limit old new slots total connections history changes held = record {
+    (history : HistoryView) (events : SlotView) → ChangesSlots old new slots → AreEventsOf new events
+    → IsHeldFor checked limit old total connections history events
+    → IsHeldFor checked limit new total connections history events
+slots_held checked limit old new slots total connections history events changes now held = record {
   is = record {
     named = changes.checked ∙ held.is.named;
     limited = changes.limit ∙ held.is.limited;
@@ -107,14 +122,24 @@ slots_held checked limit old new slots total connections history changes held = 
     stands = slots_keep_it old new slots changes (transactions_of history.all) held.history_is.stands;
     idle = held.history_is.idle;
   };
+  events_are = now;
+}
+
+pub kept_events : (old new : Book) (slots : List Slot) (events : SlotView) → ChangesSlots old new slots
+    → KeepsUse (book_slots old) slots → AreEventsOf old events → AreEventsOf new events
+kept_events old new slots events changes keeps are = record {
+  used = subst (AreInUse (use_after events.all)) (sym changes.slots_are) (keeps (use_after events.all) are.used);
+  idle = are.idle;
 }
 
 pub kept_held : (checked : CheckedOf) (limit : ℕ) (old new : Book) (total more : ℕ) (connections : List ConnectionState)
-    (history : HistoryView) → IsKept old new → more ≡ total → IsHeldFor checked limit old total connections history
-    → IsHeldFor checked limit new more connections history
-kept_held checked limit old new total more connections history kept same held =
-    subst (λ (n : ℕ). IsHeldFor checked limit new n connections history) (sym same)
-    (slots_held checked limit old new (book_slots old) total connections history kept held)
+    (history : HistoryView) (events : SlotView) → IsKept old new → more ≡ total
+    → IsHeldFor checked limit old total connections history events
+    → IsHeldFor checked limit new more connections history events
+kept_held checked limit old new total more connections history events kept same held =
+    subst (λ (n : ℕ). IsHeldFor checked limit new n connections history events) (sym same)
+    (slots_held checked limit old new (book_slots old) total connections history events kept
+    (kept_events old new (book_slots old) events kept (λ used are. are) held.events_are) held)
 
 -- ---- answers
 

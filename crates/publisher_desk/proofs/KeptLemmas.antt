@@ -8,7 +8,7 @@ use Rattle.atomic_table.specs.Table.{State, Me, Allows, Splits, Joins}
 use Rattle.atomic_table.specs.Table as table
 use Rattle.atomic_table.proofs.Lists.{at_set, at_snoc, set_else}
 use Rattle.publisher_desk.specs.Receipts.{ReceiptOf}
-use Rattle.publisher_desk.specs.Sights.{view_of, StartsWith, AreSeen, times, drawn_in, drawn, Fits, IsKept, IsTold, begun, shown_in, shown, added_in, added, rest_in, only_in, left, given, joined, nobody}
+use Rattle.publisher_desk.specs.Sights.{view_of, StartsWith, AreSeen, times, drawn_in, drawn, Fits, IsKept, HasWholeLog, begun, shown_in, shown, added_in, added, rest_in, only_in, left, given, joined, nobody}
 use Rattle.publisher_desk.specs.declared.sight.Sight.{Sight}
 use Rattle.publisher_desk.specs.declared.sight.HistoryView.{HistoryView}
 
@@ -116,7 +116,7 @@ fits_set keeper log views by w others mine j u at = ⊎_elim
     (at_set views by j w u at)
 
 module _ (views : List HistoryView) (kept : IsKept views) (by : ℕ) (v : HistoryView) (at : get_elem? views by ≡ some v) where
-  tells : v.keeps ≡ true → IsTold v
+  tells : v.keeps ≡ true → HasWholeLog v
   tells keeps =
       let mine = kept.each by v at in
       let whole = (mine.0 keeps).1 in
@@ -259,7 +259,7 @@ begins slots id me state kept homes at bound =
     (begun me.0, table.keeps, tt, begins_kept state.views kept id me.0 at, refl)
 
 pub shows : (slots id : ℕ) (me : Me ReceiptOf HistoryView) → me.0.keeps ≡ true
-    → Allows holds slots id me 0 (λ n. n) (λ n after. (after ≡ (shown me.0, me.1)) × IsTold me.0)
+    → Allows holds slots id me 0 (λ n. n) (λ n after. (after ≡ (shown me.0, me.1)) × HasWholeLog me.0)
 shows slots id me keeps state kept homes at bound = (
   shown me.0,
   table.keeps,
@@ -269,7 +269,7 @@ shows slots id me keeps state kept homes at bound = (
 )
 
 pub checks : (slots id : ℕ) (me : Me ReceiptOf HistoryView) → me.0.keeps ≡ true
-    → Allows holds slots id me 0 (λ n. n) (λ n after. (after ≡ me) × IsTold me.0)
+    → Allows holds slots id me 0 (λ n. n) (λ n after. (after ≡ me) × HasWholeLog me.0)
 checks slots id me keeps state kept homes at bound = (
   me.0,
   table.keeps,
@@ -281,7 +281,7 @@ checks slots id me keeps state kept homes at bound = (
 pub adds : (slots id : ℕ) (me : Me ReceiptOf HistoryView) (f : ℕ → ℕ) (receipt : ReceiptOf) → me.0.keeps ≡ true
     → receipt.number ≡ length me.0.all + 1
     → Allows holds slots id me 0 f (λ n after. (told : ReceiptOf) × (some receipt ≡ some told)
-    × (after ≡ (added told me.0, me.1)) × IsTold me.0)
+    × (after ≡ (added told me.0, me.1)) × HasWholeLog me.0)
 adds slots id me f receipt keeps number state kept homes at bound = (
   added receipt me.0,
   table.keeps,

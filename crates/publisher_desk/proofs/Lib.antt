@@ -4,4 +4,6 @@ pub mod KeptLemmas
 pub mod LoggedLemmas
 pub mod RefusalLemmas
 pub mod SeatLemmas
+pub mod SlotsKept
+pub mod SlotLemmas
 pub mod StepLemmas

@@ -14,10 +14,10 @@ use Rattle.tables_log.specs.declared.book.Book.{Book}
 use Rattle.tables_log.specs.declared.error.CommitError.{CommitError}
 use Rattle.tables_log.proofs.StandLemmas.{each_is_logged, commits_add_one}
 use Rattle.publisher_desk.specs.Answers.{IsRead, IsRefusedAfter}
-use Rattle.publisher_desk.specs.Logged.{StandsIn, IsReadIn, IsNoted, AreNoted, own_numbers, RiseTo, IsSighted, IsSeatIn, AreLogged, IsHistoryOf, IsLogOfSeats, Records, Looks, Refuses, IsRefusedIn, IsRefused}
+use Rattle.publisher_desk.specs.Logged.{StandsIn, IsReadIn, IsNoted, AreNoted, own_numbers, RiseTo, IsSighted, IsSeatIn, AreLogged, IsHistoryOf, IsLogOfSeats, Records, Looks, Refuses, IsRefused}
 use Rattle.publisher_desk.specs.Receipts.{ReceiptOf, transaction_of, transactions_of}
 use Rattle.publisher_desk.specs.Seats.{SeatOf, note_number, highest}
-use Rattle.publisher_desk.specs.Sights.{IsTold, Sees, StartsWith, sight, times, view_of}
+use Rattle.publisher_desk.specs.Sights.{HasWholeLog, Sees, StartsWith, sight, times, view_of}
 use Rattle.publisher_desk.specs.declared.note.Note.{Note}
 use Rattle.publisher_desk.specs.declared.note.Note.TheVariants.{Committed, Looked}
 use Rattle.publisher_desk.specs.declared.note.Reading.{Reading}
@@ -315,7 +315,7 @@ all_first : (P : SeatOf → Type 0) (seat : SeatOf) (seats : List SeatOf) → P 
 all_first P seat seats first rest zero other low = first
 all_first P seat seats first rest (suc place) other low = rest place other (omega (arith, low))
 
-pub none_logged : (setting : Setting) (log : HistoryView) (seats : List SeatOf) → seats ≡ [] → IsTold log
+pub none_logged : (setting : Setting) (log : HistoryView) (seats : List SeatOf) → seats ≡ [] → HasWholeLog log
     → AreLogged setting log seats
 none_logged setting log seats none told = subst (AreLogged setting log) (sym none) (record {
   seen = told.seen;
@@ -342,9 +342,8 @@ more_logged setting log lent notes seats all one lent_is all_is sighted rest =
     })
 
 pub logged_seats : (checked : CheckedOf) (book : Book) (history : HistoryView) (seats : List SeatOf)
-    → IsHistoryOf book history → AreLogged (setting_in checked) history seats → IsLogOfSeats checked seats book
+    → IsHistoryOf book history → AreLogged (setting_in checked) history seats → IsLogOfSeats checked history.all seats book
 logged_seats checked book history seats is logged = record {
-  log = history.all;
   stands = is.stands;
   each = logged.each;
   once = λ n. let sum = logged.once n in omega (arith, sum);

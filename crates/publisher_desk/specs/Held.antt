@@ -1,16 +1,20 @@
 -- What holds of a publisher's book each time that its lock is acquired: PostgreSQL 15, 3.4. Transactions, and "Logical
 -- Replication", 31.1 Publication.
-use Rattle.std.specs.Prelude.{◌≡◌, ℕ, ◌+◌, ◌≤◌, List, [], ◌∷◌, ◌++◌, All, length}
+use Rattle.std.specs.Prelude.{◌≡◌, ℕ, ◌+◌, ◌≤◌, List, [], ◌∷◌, ◌++◌, All, length, true}
 use Rattle.shard_checker.specs.CheckedView.{CheckedOf, setting_in}
 use Rattle.table_changes.specs.Commands.{Command}
 use Rattle.table_changes.specs.Tables.{no_rows}
-use Rattle.tables_log.specs.BookView.{book_checked, book_limit, book_log}
+use Rattle.tables_log.specs.BookView.{book_checked, book_limit, book_log, book_slots}
 use Rattle.tables_log.specs.Commits.{CommitOf}
 use Rattle.tables_log.specs.Lsn.{end_lsn_of}
+use Rattle.tables_log.specs.Slots.{AreInUse}
 use Rattle.tables_log.specs.StandsFor.{Transaction, AreAccepted, StandsFor, entries_from}
 use Rattle.tables_log.specs.declared.book.Book.{Book}
 use Rattle.publisher_desk.specs.Logged.{IsHistoryOf}
+use Rattle.publisher_desk.specs.SlotEvents.{use_after}
+use Rattle.publisher_desk.specs.SlotSights.{slot_view}
 use Rattle.publisher_desk.specs.declared.sight.HistoryView.{HistoryView}
+use Rattle.publisher_desk.specs.declared.slot_sight.SlotView.{SlotView}
 use Rattle.publisher_desk.specs.declared.connection_state.ConnectionState.{ConnectionState}
 
 -- No client was sent the log past this position.
@@ -38,12 +42,26 @@ pub record IsBookOf (checked : CheckedOf) (limit : ℕ) (book : Book) : Type 0 w
   pub transactions : List Transaction
   pub stands : StandsFor book transactions
 
--- So is the book; the total is the number of its commits, no slot's client was sent the log past its end, and the
--- history has its transactions.
+-- The slots in use are those that streams have acquired and not released.
+pub record AreEventsOf (book : Book) (events : SlotView) : Type 0 where
+  pub used : AreInUse (use_after events.all) (book_slots book)
+  pub idle : events ≡ slot_view true events.all []
+
+-- So is the book; the total is the number of its commits, no slot's client was sent the log past its end, the history
+-- has its transactions, and the events are those of its slots.
 pub record IsHeldFor (checked : CheckedOf) (limit : ℕ) (book : Book) (total : ℕ) (connections : List ConnectionState)
-    (history : HistoryView) : Type 0 where
+    (history : HistoryView) (events : SlotView) : Type 0 where
   pub is : IsBookOf checked limit book
   pub counted : length (book_log book) ≡ total
   pub slots : length connections ≡ length checked.catalog.subscriptions
   pub sent : AreSentUpTo (end_lsn_of (length (book_log book))) connections
   pub history_is : IsHistoryOf book history
+  pub events_are : AreEventsOf book events
+
+-- And so it is when it is being closed.
+pub record IsClosingFor (checked : CheckedOf) (limit : ℕ) (book : Book) (total : ℕ) (history : HistoryView)
+    (events : SlotView) : Type 0 where
+  pub is : IsBookOf checked limit book
+  pub counted : length (book_log book) ≡ total
+  pub history_is : IsHistoryOf book history
+  pub idle : events ≡ slot_view true events.all []

@@ -9,3 +9,6 @@ pub mod Receipts
 pub mod Refusals
 pub mod Seats
 pub mod Sights
+pub mod SlotEvents
+pub mod SlotSights
+pub mod Viewers

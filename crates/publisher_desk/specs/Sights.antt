@@ -52,8 +52,8 @@ pub record IsKept (views : List HistoryView) : Type 0 where
   pub once : (n : ℕ) → drawn n views ≤ 1
   pub low : (n : ℕ) → length log < n → drawn n views ≡ 0
 
--- what a step tells the view that has the whole log
-pub record IsTold (view : HistoryView) : Type 0 where
+-- what is so of the view that has the whole log
+pub record HasWholeLog (view : HistoryView) : Type 0 where
   pub seen : AreSeen view.all view.sights
   pub once : (n : ℕ) → drawn_in n view.sights ≤ 1
   pub low : (n : ℕ) → length view.all < n → drawn_in n view.sights ≡ 0

@@ -7,15 +7,16 @@ ghost use Rattle.tables_log.specs.Committing.{Commits, IsKept, RefusedBy};
 ghost use Rattle.tables_log.specs.Logs.{entry_at};
 ghost use Rattle.publisher_desk.specs.Lending.{IsNext, IsStepOf, commits_in};
 
-use crate::auditing::audit_all;
+use crate::closing::Closing;
 use crate::connection_state::ConnectionState;
 use crate::history::{History, HistoryToken};
 use crate::naming::Publishing;
 use crate::note::copy_found;
 use crate::receipt::Receipt;
-use crate::seat::Seat;
+use crate::slot_history::{SlotHistory, SlotToken};
 use crate::slot_task::SlotTask;
 use crate::step::SenderStep;
+use crate::stream_task::StreamTask;
 use filter_tree::{Row, TableNumber};
 use row_owners::OwnerSet;
 use shard_checker::Checked;
@@ -31,7 +32,7 @@ use tables_log::{Book, CommitError, CommitNumber, Lsn, SlotNumber};
 const TOGETHER: u32 = 32;
 
 /// The book, the ledger's total of its commits, the state of each slot's connection, whether there will be no further
-/// commit, and the history, which has the book's transactions. Contracts see the log.
+/// commit, the history, which has the book's transactions, and that of its slots. Contracts see the log.
 #[derive(Drop)]
 pub(crate) struct Desk<P: Publishing> {
     book: Book,
@@ -39,6 +40,7 @@ pub(crate) struct Desk<P: Publishing> {
     connections: Vec<ConnectionState>,
     is_finished: bool,
     history: History<P>,
+    slots: SlotHistory<P>,
 }
 
 impl<P: Publishing> Model for Desk<P> {
@@ -51,7 +53,7 @@ impl<P: Publishing> Model for Desk<P> {
 
     ghost view = { λ d. book_log d.book };
 
-    ghost invariant = { λ d. IsHeldFor P.checked P.limit d.book d.counted.total d.connections.items d.history };
+    ghost invariant = { λ d. IsHeldFor P.checked P.limit d.book d.counted.total d.connections.items d.history d.slots };
 }
 
 /// Makes the commands one commit of the book, and counts it in the ledger.
@@ -145,14 +147,15 @@ impl<P: Publishing> Desk<P> {
     ghost use Rattle.row_owners.specs.Owners.{OwnedWhere};
     ghost use Rattle.tables_log.specs.Logs.{entry_at};
     ghost use Rattle.tables_log.specs.Routes.{gets_some};
-    ghost use Rattle.publisher_desk.specs.Counting.{IsCounted};
     ghost use Rattle.publisher_desk.specs.Answers.{IsMade};
-    ghost use Rattle.publisher_desk.specs.Held.{AddsEntry, IsBookOf};
+    ghost use Rattle.publisher_desk.specs.Held.{AddsEntry};
     ghost use Rattle.publisher_desk.specs.Lending.{IsLent, LendsTo, IsStepOf, IsNext};
-    ghost use Rattle.publisher_desk.specs.Logged.{IsLogOfSeats, Looks, Records, Refuses};
+    ghost use Rattle.publisher_desk.specs.Logged.{Looks, Records, Refuses};
     ghost use Rattle.publisher_desk.specs.Receipts.{receipt_of};
     ghost use Rattle.publisher_desk.specs.Refusals.{HasFault};
-    ghost use Rattle.publisher_desk.specs.Sights.{sight_of, view_of};
+    ghost use Rattle.publisher_desk.specs.Sights.{StartsWith, sight_of, view_of};
+    ghost use Rattle.publisher_desk.specs.SlotSights.{slot_sight_of, slot_view};
+    ghost use Rattle.publisher_desk.specs.Viewers.{Holds, IsShown, IsStreamedIf, Releases, SeesLog};
 
     /// A book without commits, of which nothing was sent.
     pub(crate) fn new(
@@ -161,11 +164,13 @@ impl<P: Publishing> Desk<P> {
         limit: u32,
         counted: ledger::Book<P>,
         history: History<P>,
+        slots: SlotHistory<P>,
     ) -> Result<Desk<P>, AllocError>
         requires checked { checked_view (arc_value checked) ≡ P.checked }
         requires limit { limit ≡ P.limit }
         requires total { counted.total ≡ 0 }
         requires history { history ≡ view_of true [] [] }
+        requires slots { slots ≡ slot_view true [] [] }
         requires some { 1 ≤ limit }
         requires within { limit ≤ 1000000000 }
         ensures { IfOk result (λ desk. desk ≡ []) }
@@ -183,6 +188,7 @@ impl<P: Publishing> Desk<P> {
             connections,
             is_finished: false,
             history,
+            slots,
         })
     }
 
@@ -346,6 +352,7 @@ impl<P: Publishing> Desk<P> {
     }
 
     /// Lets a task use the book and the state of each slot's connection.
+    #[tactic(auto, using(crate::proofs::HeldLemmas::kept_events))]
     pub(crate) fn with_slots<U: SlotTask>(&mut self, user: &mut U) -> U::Answer
         ensures log { self.new ≡ self.old }
         ensures lent { IsLent U.did P.checked user.old user.new result }
@@ -354,6 +361,7 @@ impl<P: Publishing> Desk<P> {
     }
 
     /// Does what `with_slots` does. The seat's token has then seen the whole history.
+    #[tactic(auto, using(crate::proofs::HeldLemmas::kept_events))]
     pub(crate) fn with_slots_for<U: SlotTask>(
         &mut self,
         token: &mut Option<HistoryToken<P>>,
@@ -367,6 +375,81 @@ impl<P: Publishing> Desk<P> {
         answer
     }
 
+    /// Shows a connection the log and the events of the slots.
+    pub(crate) fn show(
+        &mut self,
+        token: &mut Option<HistoryToken<P>>,
+        slots: &mut Option<SlotToken<P>>,
+    )
+        ensures log { self.new ≡ self.old }
+        ensures seen { IsShown P.checked self.old (sight_of token.old) (sight_of token.new) (slot_sight_of slots.old)
+            (slot_sight_of slots.new) }
+    {
+        self.history.look(token);
+        self.slots.look(slots);
+    }
+
+    /// Lets the task of a connection use the book and the state of each slot's connection, and acquire a slot. The
+    /// connection has then seen the log and all events. Nothing is done after more acquisitions than a number of 64 bits
+    /// counts.
+    #[tactic(auto, using(crate::proofs::SlotLemmas::unacquired_events, crate::proofs::SlotLemmas::acquired_events))]
+    pub(crate) fn with_stream<U: StreamTask>(
+        &mut self,
+        token: &mut Option<HistoryToken<P>>,
+        slots: &mut Option<SlotToken<P>>,
+        user: &mut U,
+    ) -> Option<U::Answer>
+        ensures log { self.new ≡ self.old }
+        ensures used { IsStreamedIf U.did P.checked user.old user.new (sight_of token.old) (sight_of token.new)
+            (slot_sight_of slots.old) (slot_sight_of slots.new) result }
+    {
+        let number = self.slots.next_number()?;
+        let (answer, acquired) = user.use_stream(
+            &mut self.book,
+            self.connections.as_mut_slice(),
+            number,
+        );
+        self.history.look(token);
+        match acquired {
+            None => self.slots.look(slots),
+            Some(one) => self.slots.acquire(slots, one, number),
+        }
+        Some(answer)
+    }
+
+    /// Releases the slot that the connection has. The connection has then seen the log and all events.
+    #[tactic(auto, using(crate::proofs::SlotLemmas::released_events))]
+    pub(crate) fn release(
+        &mut self,
+        token: &mut Option<HistoryToken<P>>,
+        slots: &mut Option<SlotToken<P>>,
+        slot: SlotNumber,
+    )
+        requires { Holds (slot_sight_of slots.old).held slot }
+        ensures log { self.new ≡ self.old }
+        ensures seen { SeesLog P.checked (sight_of token.old) (sight_of token.new) }
+        ensures released { Releases slot (slot_sight_of slots.old) (slot_sight_of slots.new) }
+    {
+        self.book.release(slot);
+        self.history.look(token);
+        self.slots.release(slots, slot);
+    }
+
+    /// Shows a connection the log, of which what another has seen is a beginning.
+    pub(crate) fn compare(
+        &mut self,
+        token: &mut Option<HistoryToken<P>>,
+        other: &mut Option<HistoryToken<P>>,
+    )
+        ensures log { self.new ≡ self.old }
+        ensures seen { SeesLog P.checked (sight_of token.old) (sight_of token.new) }
+        ensures begins { StartsWith (sight_of token.new).seen (sight_of other.old).seen }
+        ensures same { sight_of other.new ≡ sight_of other.old }
+    {
+        self.history.compare(other);
+        self.history.look(token);
+    }
+
     /// There will be no further commit.
     pub(crate) fn finish(&mut self)
         ensures { self.new ≡ self.old }
@@ -374,25 +457,21 @@ impl<P: Publishing> Desk<P> {
         self.is_finished = true;
     }
 
-    /// The book, whose commits the ledger compares with the receipts of the seats, and whose transactions the history
-    /// compares with what the seats know. `rest` has the parts of the ledger of the seats that no session has.
-    #[tactic(auto, using(crate::proofs::LoggedLemmas::logged_seats))]
-    pub(crate) fn into_counted(self, rest: Share<P>, seats: &mut [Seat<P>]) -> Book
-        requires none { rest.amount ≡ 0 }
-        ensures is { IsBookOf P.checked P.limit result }
-        ensures counted { IsCounted P.parts rest.parts seats.old (length (book_log result)) }
-        ensures logged { IsLogOfSeats P.checked seats.old result }
-        ensures same { seats.new ≡ seats.old }
-    {
+    /// The book and the histories, without the lock.
+    pub(crate) fn into_closing(self) -> Closing<P> {
         let Desk {
             book,
-            mut counted,
+            counted,
             connections: _,
             is_finished: _,
-            mut history,
+            history,
+            slots,
         } = self;
-        let mut all = rest;
-        audit_all(&mut counted, &mut all, &mut history, seats);
-        book
+        Closing {
+            book,
+            counted,
+            history,
+            slots,
+        }
     }
 }

@@ -53,7 +53,7 @@ impl<P: Publishing> Model for History<P> {
 
 impl<P: Publishing> History<P> {
     ghost use Rattle.std.specs.Prelude.{◌≡◌, ◌+◌, ◌<◌, List, [], ◌∷◌, ◌++◌, length, true};
-    ghost use Rattle.publisher_desk.specs.Sights.{AddsTo, IsTold, Sees, added, first_in, left, shown, sight_of, view_of};
+    ghost use Rattle.publisher_desk.specs.Sights.{AddsTo, HasWholeLog, Sees, StartsWith, added, first_in, left, shown, sight_of, view_of};
 
     /// A history without receipts.
     pub(crate) fn new(
@@ -97,7 +97,7 @@ impl<P: Publishing> History<P> {
     fn add(&mut self, receipt: &Receipt)
         requires { receipt.now.number ≡ length self.old.all + 1 }
         ensures added { self.new ≡ added receipt.now self.old }
-        ensures told { IsTold self.old }
+        ensures whole { HasWholeLog self.old }
     {
         let History {
             table,
@@ -112,7 +112,7 @@ impl<P: Publishing> History<P> {
     /// Shows the log to the sight that was taken in last.
     fn show(&mut self)
         ensures shown { self.new ≡ shown self.old }
-        ensures told { IsTold self.old }
+        ensures whole { HasWholeLog self.old }
     {
         let History {
             table,
@@ -125,7 +125,7 @@ impl<P: Publishing> History<P> {
     /// Establishes that the sights that were taken in agree with the log.
     pub(crate) fn check(&mut self)
         ensures same { self.new ≡ self.old }
-        ensures told { IsTold self.old }
+        ensures whole { HasWholeLog self.old }
     {
         let History {
             table,
@@ -162,6 +162,18 @@ impl<P: Publishing> History<P> {
     {
         self.take_in(token);
         self.add(receipt);
+        *token = Some(self.give_back());
+    }
+
+    /// Establishes that what the token has seen is a beginning of the log. The token knows no more than before.
+    pub(crate) fn compare(&mut self, token: &mut Option<HistoryToken<P>>)
+        requires idle { self.old ≡ view_of true self.old.all [] }
+        ensures log { self.new ≡ self.old }
+        ensures begins { StartsWith self.old.all (sight_of token.old).seen }
+        ensures same { sight_of token.new ≡ sight_of token.old }
+    {
+        self.take_in(token);
+        self.check();
         *token = Some(self.give_back());
     }
 

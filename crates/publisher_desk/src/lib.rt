@@ -3,6 +3,7 @@
 #![tactic(auto)]
 
 mod auditing;
+mod closing;
 mod connection_state;
 mod desk;
 mod history;
@@ -17,9 +18,15 @@ mod receipt;
 mod seat;
 mod seats;
 mod sight;
+mod slot_event;
+mod slot_history;
+mod slot_sight;
 mod slot_task;
 mod step;
+mod stream_task;
+mod viewer;
 
+pub use closing::Closing;
 pub use connection_state::ConnectionState;
 pub use laws::threads_share_publishers;
 pub use naming::Publishing;
@@ -30,5 +37,8 @@ pub use read_fault::ReadFault;
 pub use receipt::Receipt;
 pub use seat::Seat;
 pub use seats::Seats;
+pub use slot_event::{Acquisition, SlotEvent};
 pub use slot_task::SlotTask;
 pub use step::SenderStep;
+pub use stream_task::StreamTask;
+pub use viewer::Viewer;

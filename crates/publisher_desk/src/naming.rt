@@ -8,7 +8,7 @@ use std::marker::Brand;
 use std::sync::ledger::Ledger;
 
 /// Names a publisher in contracts: the ledger that counts its commits, the checked catalog that it was made from, how
-/// many commits its log takes, and the history that ties receipts and readings to the log.
+/// many commits its log takes, the history that ties receipts and readings to the log, and that of its slots.
 pub trait Publishing: Ledger {
     ghost use Rattle.atomic_table.specs.Seated.{TableId};
 
@@ -17,6 +17,8 @@ pub trait Publishing: Ledger {
     ghost limit: { ℕ };
 
     ghost history: { TableId };
+
+    ghost slots: { TableId };
 }
 
 impl Publishing for Brand {
@@ -27,4 +29,6 @@ impl Publishing for Brand {
     ghost limit = { 0 };
 
     ghost history = { no_table };
+
+    ghost slots = { no_table };
 }

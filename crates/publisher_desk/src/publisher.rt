@@ -2,6 +2,7 @@
 
 ghost use Rattle.std.specs.Prelude.{◌≡◌};
 
+use crate::closing::Closing;
 use crate::desk::Desk;
 use crate::history::History;
 use crate::moved::Moved;
@@ -11,15 +12,18 @@ use crate::opening::Opening;
 use crate::read_fault::ReadFault;
 use crate::seat::Seat;
 use crate::seats::Seats;
+use crate::slot_history::SlotHistory;
 use crate::slot_task::SlotTask;
 use crate::step::SenderStep;
+use crate::stream_task::StreamTask;
+use crate::viewer::Viewer;
 use filter_tree::{Row, TableNumber};
 use shard_checker::Checked;
 use std::alloc::{AllocError, Global};
 use std::marker::Model;
 use std::sync::{Arc, Mutex, Wait};
 use table_changes::Command;
-use tables_log::{Book, CommitError, CommitNumber, SlotNumber};
+use tables_log::{CommitError, CommitNumber, SlotNumber};
 
 /// A commit of fewer commands is small.
 const SMALL: usize = 8;
@@ -59,19 +63,17 @@ impl<P: Publishing> Publisher<P> {
     ghost use Rattle.shard_checker.specs.CheckedView.{checked_view, setting_in};
     ghost use Rattle.table_changes.specs.Commands.{command_view};
     ghost use Rattle.publisher_desk.specs.Answers.{IsMade, IsRead};
-    ghost use Rattle.tables_log.specs.BookView.{book_log};
-    ghost use Rattle.publisher_desk.specs.Counting.{IsCounted};
-    ghost use Rattle.publisher_desk.specs.Held.{IsBookOf};
-    ghost use Rattle.publisher_desk.specs.Lending.{IsLent, IsLentTo, IsNext};
-    ghost use Rattle.publisher_desk.specs.Logged.{IsLogOfSeats, IsRefused};
+    ghost use Rattle.publisher_desk.specs.Lending.{IsLent, IsLentTo, IsNext, IsStepOf};
+    ghost use Rattle.publisher_desk.specs.Logged.{IsRefused};
     ghost use Rattle.publisher_desk.specs.Receipts.{receipt_of};
     ghost use Rattle.publisher_desk.specs.Refusals.{HasFault, HasReadFault};
     ghost use Rattle.publisher_desk.specs.Seats.{AreUpTo, receipts};
     ghost use Rattle.publisher_desk.specs.Sights.{StartsWith};
+    ghost use Rattle.publisher_desk.specs.Viewers.{HasReleased, Holds, IsUsedIf, SeesMore, log_seen};
     ghost use Rattle.publisher_desk.specs.declared.note.Note.TheVariants.{Committed, Looked};
 
     /// A publisher without commits, whose log takes at most `limit` of them, and the 1,000 seats of its sessions.
-    /// `opening` has the ledger that counts the commits, and the history. The only error is out of memory.
+    /// `opening` has the ledger that counts the commits, and the histories. The only error is out of memory.
     pub fn new(
         alloc: Global,
         opening: Opening,
@@ -81,6 +83,7 @@ impl<P: Publishing> Publisher<P> {
         requires name { opening.name ≡ P.name }
         requires parts { opening.parts ≡ P.parts }
         requires history { opening.history ≡ P.history }
+        requires slots { opening.slots ≡ P.slots }
         requires checked { checked_view (arc_value checked) ≡ P.checked }
         requires limit { limit ≡ P.limit }
         requires some { 1 ≤ limit }
@@ -92,11 +95,15 @@ impl<P: Publishing> Publisher<P> {
             blank,
             table,
             keeper,
+            slot_table,
+            slot_keeper,
         } = opening;
         let (counted, share) = blank.open::<P>();
         let slots = checked.catalog().subscriptions.len();
         let book_of = Arc::try_clone(&checked)?;
-        let desk = Desk::new(alloc, book_of, limit, counted, History::new(table, keeper))?;
+        let history = History::new(table, keeper);
+        let slot_history = SlotHistory::new(slot_table, slot_keeper);
+        let desk = Desk::new(alloc, book_of, limit, counted, history, slot_history)?;
         let publisher = Publisher {
             alloc,
             checked,
@@ -235,9 +242,19 @@ impl<P: Publishing> Publisher<P> {
     /// number that no log has, the sender ends.
     ///
     /// It sends the commit with this number if the slot's subscriber gets something of it. Otherwise it passes over
-    /// that commit and those after it, up to the first of which the subscriber gets something, and at most 64.
-    pub fn next_step<R: Wait>(&self, rt: &R, slot: SlotNumber, number: u64) -> SenderStep
-        ensures { IsNext P.checked.plan slot number result }
+    /// that commit and those after it, up to the first of which the subscriber gets something, and at most 64. The
+    /// viewer has then seen the log, which has these commits.
+    pub fn next_step<R: Wait>(
+        &self,
+        rt: &R,
+        viewer: &mut Viewer<P>,
+        slot: SlotNumber,
+        number: u64,
+    ) -> SenderStep
+        ensures next { IsNext P.checked.plan slot number result }
+        ensures logged { IsStepOf P.checked.plan slot (log_seen P.checked viewer.new.seen) number result }
+        ensures more { SeesMore viewer.old viewer.new }
+        ensures held { viewer.new.held ≡ viewer.old.held }
     {
         let Some(moved) = self.moved.of(slot) else {
             return SenderStep::Ended;
@@ -245,6 +262,8 @@ impl<P: Publishing> Publisher<P> {
         let mut desk = self.desk.lock(rt);
         for _ in rt.forever() {
             if let Some(step) = desk.step(slot, number) {
+                let Viewer { token, slots } = viewer;
+                desk.show(token, slots);
                 return step;
             }
             desk = moved.wait(rt, desk);
@@ -253,10 +272,24 @@ impl<P: Publishing> Publisher<P> {
     }
 
     /// The next step of the slot's sender, as `next_step` says, if there is something to do now.
-    pub fn step_now<R: Wait>(&self, rt: &R, slot: SlotNumber, number: u64) -> Option<SenderStep>
-        ensures { IfSome result (IsNext P.checked.plan slot number) }
+    pub fn step_now<R: Wait>(
+        &self,
+        rt: &R,
+        viewer: &mut Viewer<P>,
+        slot: SlotNumber,
+        number: u64,
+    ) -> Option<SenderStep>
+        ensures next { IfSome result (IsNext P.checked.plan slot number) }
+        ensures logged { IfSome result (
+            IsStepOf P.checked.plan slot (log_seen P.checked viewer.new.seen) number) }
+        ensures more { SeesMore viewer.old viewer.new }
+        ensures held { viewer.new.held ≡ viewer.old.held }
     {
-        self.desk.lock(rt).step(slot, number)
+        let Viewer { token, slots } = viewer;
+        let mut desk = self.desk.lock(rt);
+        let step = desk.step(slot, number);
+        desk.show(token, slots);
+        step
     }
 
     /// Lets a task use the book and the state of each slot's connection, under the lock. The book is of the checked
@@ -298,24 +331,60 @@ impl<P: Publishing> Publisher<P> {
         answer
     }
 
+    /// Lets the task of a connection use the book and the state of each slot's connection, under the lock, and acquire a
+    /// slot that is free, which the connection then has. The book's log is the one that the viewer has then seen. None
+    /// if so many streams have acquired slots that a number of 64 bits counts no more; then nothing is done.
+    pub fn with_stream<U: StreamTask, R: Wait>(
+        &self,
+        rt: &R,
+        viewer: &mut Viewer<P>,
+        user: &mut U,
+    ) -> Option<U::Answer>
+        ensures used { IsUsedIf U.did P.checked viewer.old viewer.new user.old user.new result }
+        ensures more { SeesMore viewer.old viewer.new }
+    {
+        let Viewer { token, slots } = viewer;
+        let mut desk = self.desk.lock(rt);
+        let answer = desk.with_stream(token, slots, user);
+        let wanted = desk.wanted();
+        drop(desk);
+        self.moved.wake(wanted);
+        answer
+    }
+
+    /// Releases the slot that the connection has: from now on another may acquire it.
+    pub fn release<R: Wait>(&self, rt: &R, viewer: &mut Viewer<P>, slot: SlotNumber)
+        requires { Holds viewer.old.held slot }
+        ensures released { HasReleased viewer.old viewer.new }
+        ensures more { SeesMore viewer.old viewer.new }
+    {
+        let Viewer { token, slots } = viewer;
+        self.desk.lock(rt).release(token, slots, slot);
+    }
+
+    /// Shows a viewer the log, of which what another has seen is a beginning.
+    pub fn compare<R: Wait>(&self, rt: &R, viewer: &mut Viewer<P>, other: &mut Viewer<P>)
+        ensures begins { StartsWith viewer.new.seen other.old.seen }
+        ensures more { SeesMore viewer.old viewer.new }
+        ensures held { viewer.new.held ≡ viewer.old.held }
+        ensures other { other.new ≡ other.old }
+    {
+        let Viewer { token, slots: _ } = viewer;
+        let Viewer {
+            token: known,
+            slots: _,
+        } = other;
+        self.desk.lock(rt).compare(token, known);
+    }
+
     /// There will be no further commit: senders end when they have sent all.
     pub fn finish<R: Wait>(&self, rt: &R) {
         self.desk.lock(rt).finish();
         self.moved.wake_all();
     }
 
-    /// The book, when the sessions are over: it is of the checked catalog and of some list of transactions. `rest` are
-    /// the seats that no session has, and `seats` those of the sessions. By the ledger of commits, the log has no fewer
-    /// commits than these have receipts, and exactly as many if no seat is held back. By the history, each receipt is
-    /// in the log at its number, no two have the same number, each reading is right, and what each seat has seen is a
-    /// beginning of the log. The time it takes grows with the notes of the seats.
-    pub fn into_counted(self, rest: Seats<P>, seats: &mut [Seat<P>]) -> Book
-        ensures is { IsBookOf P.checked P.limit result }
-        ensures counted { IsCounted P.parts rest seats.old (length (book_log result)) }
-        ensures logged { IsLogOfSeats P.checked seats.old result }
-        ensures same { seats.new ≡ seats.old }
-    {
-        let Seats { share, .. } = rest;
+    /// The publisher without its lock, when the sessions and the connections are over.
+    pub fn into_closing(self) -> Closing<P> {
         let Publisher {
             alloc: _,
             checked: _,
@@ -323,6 +392,6 @@ impl<P: Publishing> Publisher<P> {
             moved: _,
             is_batched: _,
         } = self;
-        desk.into_inner().into_counted(share, seats)
+        desk.into_inner().into_closing()
     }
 }

@@ -49,9 +49,9 @@ pub struct Shows;
 
 impl Play<Receipt, HistoryView> for Shows {
     ghost use Rattle.std.specs.Prelude.{◌≡◌};
-    ghost use Rattle.publisher_desk.specs.Sights.{IsTold, shown};
+    ghost use Rattle.publisher_desk.specs.Sights.{HasWholeLog, shown};
 
-    ghost then = { λ _ before _ after. (after ≡ (shown before.0, before.1)) × IsTold before.0 };
+    ghost then = { λ _ before _ after. (after ≡ (shown before.0, before.1)) × HasWholeLog before.0 };
 }
 
 /// A step that changes nothing, and shows that the sights that were taken in agree with the log.
@@ -59,9 +59,9 @@ pub struct Checks;
 
 impl Play<Receipt, HistoryView> for Checks {
     ghost use Rattle.std.specs.Prelude.{◌≡◌};
-    ghost use Rattle.publisher_desk.specs.Sights.{IsTold};
+    ghost use Rattle.publisher_desk.specs.Sights.{HasWholeLog};
 
-    ghost then = { λ _ before _ after. (after ≡ before) × IsTold before.0 };
+    ghost then = { λ _ before _ after. (after ≡ before) × HasWholeLog before.0 };
 }
 
 /// A step that adds the receipt that it announces to the log, and to the sight that was taken in last.
@@ -71,10 +71,10 @@ impl Play<Receipt, HistoryView> for Adds {
     ghost use Rattle.std.specs.Prelude.{◌≡◌};
     ghost use mathlib.Core.Option.{some};
     ghost use Rattle.publisher_desk.specs.Receipts.{ReceiptOf};
-    ghost use Rattle.publisher_desk.specs.Sights.{IsTold, added};
+    ghost use Rattle.publisher_desk.specs.Sights.{HasWholeLog, added};
 
     ghost then = { λ step before _ after. (receipt : ReceiptOf) × (step.said ≡ some receipt)
-        × (after ≡ (added receipt before.0, before.1)) × IsTold before.0 };
+        × (after ≡ (added receipt before.0, before.1)) × HasWholeLog before.0 };
 }
 
 /// How one token gets the sight that another took in last, and how that takes it in.

@@ -5,12 +5,13 @@ ghost use Rattle.tables_log.specs.BookView.{book_log, book_slots};
 ghost use Rattle.tables_log.specs.Committing.{ChangesSlots};
 ghost use Rattle.tables_log.specs.Lsn.{end_lsn_of};
 ghost use Rattle.publisher_desk.specs.Held.{AreSentUpTo};
+ghost use Rattle.tables_log.specs.Slots.{KeepsUse};
 
 use crate::connection_state::ConnectionState;
 use tables_log::Book;
 
-/// Uses the book and the state of each slot's connection, under a publisher's lock. It may change the slots and nothing
-/// else of the book, and sets no sent position after the log's end. `did` relates the task, the
+/// Uses the book and the state of each slot's connection, under a publisher's lock. It may change what is confirmed for
+/// the slots and nothing else of the book, and sets no sent position after the log's end. `did` relates the task, the
 /// book and the connections before a call to those after it, and to the answer.
 pub trait SlotTask {
     type Answer;
@@ -26,5 +27,6 @@ pub trait SlotTask {
         requires { AreSentUpTo (end_lsn_of (length (book_log book.old))) connections.old }
         ensures did { did self.old self.new book.old book.new connections.old connections.new result }
         ensures slots { ChangesSlots book.old book.new (book_slots book.new) }
+        ensures uses { KeepsUse (book_slots book.old) (book_slots book.new) }
         ensures sent { AreSentUpTo (end_lsn_of (length (book_log book.old))) connections.new };
 }

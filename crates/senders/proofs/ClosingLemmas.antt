@@ -1,5 +1,5 @@
 -- What is compared, put together.
-use Rattle.std.proofs.Common.{◌≡◌, ◌≢◌, Bor, ℕ, ◌+◌, List, [], ◌∷◌, length, map, refl, sym, ◌∙◌, ap, subst, arith, ltb, length-append}
+use Rattle.std.proofs.Common.{◌≡◌, ◌≢◌, Bor, ℕ, ◌+◌, List, [], ◌∷◌, length, map, get_or, refl, sym, ◌∙◌, ap, subst, arith, ltb, length-append}
 use Rattle.std.proofs.lemmas.Bool.{ltb-true, ltb-false}
 use Rattle.std.proofs.lemmas.List.{length-map}
 use Rattle.filter_tree.proofs.Tests.{by_test}
@@ -7,7 +7,6 @@ use Rattle.std.specs.Prelude.{All, Result, Ok, Err, IfErr, IsErrAnd, OnOk, OnErr
 use Rattle.std.specs.List.{range_with_len}
 use Rattle.std.specs.List.Sorted.{IsPermutation, IsNonDecreasingBy}
 use Rattle.std.proofs.lemmas.List.Sorted.{length_permutation, All-permutation, IsPermutation-sym}
-use Rattle.senders.specs.declared.served.Served.{Served}
 use Rattle.shard_checker.specs.CheckedView.{CheckedOf, setting_in}
 use Rattle.table_changes.specs.Setting.{Setting}
 use Rattle.table_changes.specs.Tables.{no_rows}
@@ -25,19 +24,23 @@ use Rattle.publisher_desk.specs.Seats.{SeatOf, receipts, IsForwardSeat, IsTimedS
 use Rattle.publisher_desk.specs.declared.note.Note.{Note}
 use Rattle.publisher_desk.specs.declared.note.Note.TheVariants.{Committed, Looked}
 use Rattle.publisher_desk.specs.declared.note.Reading.{Reading}
-use Rattle.senders.specs.CloseCauses.{IsMissing, IsRepeated, IsNotLogged, IsToldBy, HasWrongReading, HasLateStart, HasOtherTaken, IsCloseCause, IsHeldBack, RefusedClose}
+use Rattle.senders.specs.CloseCauses.{IsMissing, IsRepeated, IsNotLogged, IsExplainedBy, HasWrongReading, HasOtherTaken, IsCloseCause, IsHeldBack, RefusedClose}
 use Rattle.senders.specs.Closing.{IsClosed}
-use Rattle.publisher_desk.specs.Logged.{IsLogOfSeats, RiseTo}
+use Rattle.publisher_desk.specs.Logged.{RiseTo}
+use Rattle.publisher_desk.specs.Sights.{StartsWith}
 use Rattle.senders.specs.Gathering.{receipts_in, all_receipts, all_readings, numbers_of, IsRisingSeat}
-use Rattle.senders.specs.Histories.{AreInOrder, IsRight}
+use Rattle.senders.specs.Histories.{AreInOrder, AreWitnessed, IsRight}
 use Rattle.senders.specs.Replays.{Replays, IsAsLong, IsUnlikeIn}
-use Rattle.senders.specs.Reached.{AreReached}
-use Rattle.senders.specs.TakenCommits.{IsTaken}
+use Rattle.senders.specs.Reached.{IsOrder}
+use Rattle.senders.specs.Results.{ServedOf}
+use Rattle.senders.specs.Starts.{AreInTime, IsStartCause}
+use Rattle.senders.specs.TakenCommits.{IsTaken, IsWhole}
 use Rattle.senders.specs.declared.close_error.CloseError.{CloseError}
 use Rattle.senders.specs.declared.close_error.CloseError.TheVariants as f
-use Rattle.senders.proofs.LoggedLemmas.{order_begins}
+use Rattle.senders.proofs.LoggedLemmas.{long as logged_long, order_begins, order_logged}
 use Rattle.senders.proofs.NumberLemmas.{rise_is_range}
 use Rattle.senders.proofs.ReplayLemmas.{replays_all}
+use Rattle.senders.proofs.TakenLemmas.{had_all, not_taken, taken_all}
 
 -- ---- slots
 
@@ -61,7 +64,8 @@ slots_after first old new slots (Err error) before ok err = slots_then first old
 
 pub in_order : (seats : List SeatOf) (gathered sorted : List ReceiptOf) (high : ℕ)
     → gathered ≡ all_receipts seats → length gathered ≡ high → IsPermutation gathered sorted
-    → All (IsRisingSeat high) seats → RiseTo high 0 (numbers_of sorted) → AreInOrder seats sorted × (length sorted ≡ high)
+    → All (IsRisingSeat high) seats → RiseTo high 0 (numbers_of sorted)
+    → AreInOrder seats sorted × (length sorted ≡ high)
 in_order seats gathered sorted high all count moved rising rise =
     let long : length sorted ≡ high = length_permutation gathered sorted moved ∙ count in
     let numbers : length (numbers_of sorted) ≡ length sorted =
@@ -110,87 +114,115 @@ long_count : (book : Book) (seats : List SeatOf) (order : List ReceiptOf) → Ar
     → IsAsLong book order → length (book_log book) ≡ length (all_receipts seats)
 long_count book seats order ordered long = sym long.count ∙ length_permutation (all_receipts seats) order ordered.all
 
-unlike_cause : (book : Book) (seats : List SeatOf) (served : List Served) (order : List ReceiptOf)
+unlike_cause : (book : Book) (acquired : ℕ) (seats : List SeatOf) (served : List ServedOf) (order : List ReceiptOf)
     (error : CloseError) → AreInOrder seats order → IsAsLong book order → IsUnlikeIn book order error
-    → IsCloseCause book seats served error
+    → IsCloseCause book acquired seats served error
 unfolding long_count
-unlike_cause book seats served order f.CountDiffers ordered long unlike = absurd unlike
-unlike_cause book seats served order f.ReceiptMissing ordered long unlike =
+unlike_cause book acquired seats served order f.CountDiffers ordered long unlike = absurd unlike
+unlike_cause book acquired seats served order f.ReceiptMissing ordered long unlike =
     (long_count book seats order ordered long, IsNotLogged order ordered unlike)
-unlike_cause book seats served order f.ReadingWrong ordered long unlike = absurd unlike
-unlike_cause book seats served order f.TakenDiffers ordered long unlike = absurd unlike
-unlike_cause book seats served order f.StartLate ordered long unlike = absurd unlike
-unlike_cause book seats served order f.OutOfMemory ordered long unlike = tt
+unlike_cause book acquired seats served order f.ReadingWrong ordered long unlike = absurd unlike
+unlike_cause book acquired seats served order f.TakenDiffers ordered long unlike = absurd unlike
+unlike_cause book acquired seats served order f.ConnectionMissing ordered long unlike = absurd unlike
+unlike_cause book acquired seats served order f.StartLate ordered long unlike = absurd unlike
+unlike_cause book acquired seats served order f.OutOfMemory ordered long unlike = tt
 
 module _ (book fresh : Book) (seats : List SeatOf) (order : List ReceiptOf) (ordered : AreInOrder seats order)
     (long : IsAsLong book order) (replayed : Replays book fresh order)
     (count : length (book_log fresh) ≡ length order) where
   -- in the setting of the fresh book
-  record Told (setting : Setting) : Type 0 where
+  record Explained (setting : Setting) : Type 0 where
     accepted : AreAccepted setting no_rows (transactions_of order)
     logged : book_log book ≡ entries_from setting no_rows 1 (transactions_of order)
 
-  told_by : IsToldBy book seats order
-  told_by =
+  explained_by : IsExplainedBy book seats order
+  explained_by =
       let all : StandsFor fresh (transactions_of order) × (book_log fresh ≡ book_log book) =
       replays_all book fresh order replayed long count in
-      let there : Told (book_setting book) =
-      subst Told (ap setting_in replayed.named)
+      let there : Explained (book_setting book) =
+      subst Explained (ap setting_in replayed.named)
       (record { accepted = all.0.accepted; logged = sym all.1 ∙ all.0.log }) in
       record { ordered = ordered; accepted = there.accepted; logged = there.logged }
 
   wrong_cause : ¬ All (IsRight (book_setting book) (transactions_of order)) (all_readings seats)
       → HasWrongReading book seats
-  unfolding told_by
-  wrong_cause wrong = record { order = order; explained = told_by; wrong = wrong }
+  unfolding explained_by
+  wrong_cause wrong = record { order = order; explained = explained_by; wrong = wrong }
 
-  taken_cause : (served : List Served)
-      → All (IsRight (book_setting book) (transactions_of order)) (all_readings seats)
-      → ¬ All (IsTaken (book_log fresh)) served → HasOtherTaken book seats served
-  unfolding told_by
-  taken_cause served right other = record {
-    order = order;
-    explained = told_by;
-    right = right;
-    other = let all = replays_all book fresh order replayed long count in
-        subst (λ (log : List CommitOf). ¬ All (IsTaken log) served) all.1 other;
-  }
+  module _ (right : All (IsRight (book_setting book) (transactions_of order)) (all_readings seats)) (acquired : ℕ)
+      (served : List ServedOf) where
+    taken_cause : ¬ All (IsWhole (book_log book)) served → HasOtherTaken book seats served
+    unfolding explained_by
+    taken_cause short = record {
+      order = order;
+      explained = explained_by;
+      right = right;
+      other = not_taken (book_log book) served short;
+    }
 
-  late_cause : (served : List Served)
-      → All (IsRight (book_setting book) (transactions_of order)) (all_readings seats)
-      → All (IsTaken (book_log fresh)) served
-      → ¬ AreReached (length (book_checked book).catalog.subscriptions) served → HasLateStart book seats served
-  unfolding told_by
-  late_cause served right taken late = record {
-    order = order;
-    explained = told_by;
-    right = right;
-    taken = let all = replays_all book fresh order replayed long count in
-        subst (λ (log : List CommitOf). All (IsTaken log) served) all.1 taken;
-    late = late;
-  }
+    module _ (told : AreWitnessed (book_checked book) acquired seats served book)
+        (whole : All (IsWhole (book_log book)) served) where
+      start_cause : (error : CloseError)
+          → IsStartCause (length (book_checked book).catalog.subscriptions) acquired served error
+          → IsCloseCause book acquired seats served error
+      unfolding explained_by
+      start_cause f.CountDiffers cause = absurd cause
+      start_cause f.ReceiptMissing cause = absurd cause
+      start_cause f.ReadingWrong cause = absurd cause
+      start_cause f.TakenDiffers cause = absurd cause
+      start_cause f.ConnectionMissing cause = record {
+        order = order;
+        explained = explained_by;
+        right = right;
+        taken = taken_all book acquired seats served told whole;
+        missing = cause;
+      }
+      start_cause f.StartLate cause = record {
+        order = order;
+        explained = explained_by;
+        right = right;
+        taken = taken_all book acquired seats served told whole;
+        starts = cause.starts;
+        ordered = cause.ordered;
+        late = cause.late;
+      }
+      start_cause f.OutOfMemory cause = tt
 
-  is_closed : (served : List Served) → All (IsRight (book_setting book) (transactions_of order)) (all_readings seats)
-      → All (IsTaken (book_log fresh)) served
-      → AreReached (length (book_checked book).catalog.subscriptions) served
-      → All IsForwardSeat seats → All IsTimedSeat seats → IsLogOfSeats (book_checked book) seats book
-      → IsClosed (book_checked book) (book_limit book) seats served fresh
-  is_closed served right taken reached forward timed logged = record {
-    timed = timed;
-    begins = order_begins (book_checked book) book seats refl logged order ordered long.count;
-    named = replayed.named;
-    limited = replayed.limited;
-    order = order;
-    ordered = ordered;
-    transactions = transactions_of order;
-    are = refl;
-    stands = (replays_all book fresh order replayed long count).0;
-    counted = count;
-    right = right;
-    forward = forward;
-    taken = taken;
-    reached = reached;
-  }
+      is_closed : AreInTime (length (book_checked book).catalog.subscriptions) acquired served
+          → All IsForwardSeat seats → All IsTimedSeat seats
+          → IsClosed (book_checked book) (book_limit book) seats served fresh
+      is_closed times forward timed =
+          let all : StandsFor fresh (transactions_of order) × (book_log fresh ≡ book_log book) =
+          replays_all book fresh order replayed long count in
+          let log : List ReceiptOf = told.closing.log in
+          let same : order ≡ log =
+          order_logged (book_checked book) log book seats refl told.logged order ordered
+          (long.count ∙ logged_long (book_checked book) log book seats refl told.logged) in
+          record {
+            named = replayed.named;
+            limited = replayed.limited;
+            order = order;
+            ordered = ordered;
+            begins = order_begins (book_checked book) log book seats refl told.logged order ordered long.count;
+            transactions = transactions_of order;
+            are = refl;
+            stands = all.0;
+            counted = count;
+            right = right;
+            forward = forward;
+            timed = timed;
+            taken = subst (λ (entries : List CommitOf). All (IsTaken entries) served) (sym all.1)
+                (taken_all book acquired seats served told whole);
+            seen = λ place other below.
+                subst (λ (list : List ReceiptOf). StartsWith list (get_or served place other).viewer.seen) (sym same)
+                (told.seen place other below).log;
+            events = told.closing.events;
+            known = λ place other below. (told.seen place other below).slots;
+            had = had_all book acquired seats served told;
+            starts = times.starts;
+            ordered_starts = subst (λ n. IsOrder n served times.starts) told.count times.ordered;
+            reached = times.reached;
+          }
 
 -- ---- what is compared, where lists are seen as slices
 
@@ -206,11 +238,13 @@ module _ (book fresh : Book) (seats : List SeatOf) (receipts seen : List (Bor Re
   seen_long = subst (λ (list : List (Bor ReceiptOf)). IsAsLong book (map (λ (one : Bor ReceiptOf). one.now) list))
       (sym seen_is) long
 
-  pub unlike_compared : (served : List Served) (error : CloseError)
-      → IsUnlikeIn book (map (λ (one : Bor ReceiptOf). one.now) seen) error → IsCloseCause book seats served error
+  pub unlike_compared : (acquired : ℕ) (served : List ServedOf) (error : CloseError)
+      → IsUnlikeIn book (map (λ (one : Bor ReceiptOf). one.now) seen) error
+      → IsCloseCause book acquired seats served error
   unfolding seen_ordered seen_long
-  unlike_compared served error unlike =
-      unlike_cause book seats served (map (λ (one : Bor ReceiptOf). one.now) seen) error seen_ordered seen_long unlike
+  unlike_compared acquired served error unlike =
+      unlike_cause book acquired seats served (map (λ (one : Bor ReceiptOf). one.now) seen) error seen_ordered
+      seen_long unlike
 
   module _ (gathered sorted looked : List (Bor Reading))
       (all : map (λ (one : Bor Reading). one.now) gathered ≡ all_readings seats)
@@ -239,7 +273,7 @@ module _ (book fresh : Book) (seats : List SeatOf) (receipts seen : List (Bor Re
 
     module _ (right : All
         (IsRight (book_setting book) (transactions_of (map (λ (one : Bor ReceiptOf). one.now) seen)))
-        (map (λ (one : Bor Reading). one.now) looked)) (served : List Served) where
+        (map (λ (one : Bor Reading). one.now) looked)) (acquired : ℕ) (served : List ServedOf) where
       seen_right : All (IsRight (book_setting book) (transactions_of (map (λ (one : Bor ReceiptOf). one.now) seen)))
           (all_readings seats)
       unfolding seen_moved
@@ -248,31 +282,37 @@ module _ (book fresh : Book) (seats : List SeatOf) (receipts seen : List (Bor Re
           (map (λ (one : Bor Reading). one.now) gathered)
           (map (λ (one : Bor Reading). one.now) looked) all seen_moved right
 
-      pub taken_compared : ¬ All (IsTaken (book_log fresh)) served → HasOtherTaken book seats served
+      pub taken_compared : ¬ All (IsWhole (book_log book)) served → HasOtherTaken book seats served
       unfolding seen_count seen_ordered seen_long seen_right
-      taken_compared other =
+      taken_compared short =
           taken_cause book fresh seats (map (λ (one : Bor ReceiptOf). one.now) seen) seen_ordered seen_long replayed
-          seen_count served seen_right other
+          seen_count seen_right acquired served short
 
-      pub late_compared : All (IsTaken (book_log fresh)) served
-          → ¬ AreReached (length (book_checked book).catalog.subscriptions) served → HasLateStart book seats served
-      unfolding seen_count seen_ordered seen_long seen_right
-      late_compared taken late =
-          late_cause book fresh seats (map (λ (one : Bor ReceiptOf). one.now) seen) seen_ordered seen_long replayed
-          seen_count served seen_right taken late
+      module _ (slots : ℕ) (slots_are : slots ≡ length (book_checked book).catalog.subscriptions)
+          (told : AreWitnessed (book_checked book) acquired seats served book)
+          (whole : All (IsWhole (book_log book)) served) where
+        pub start_compared : {A : Type 0} (result : Result A CloseError)
+            → IfErr result (IsStartCause slots acquired served) → IfErr result (IsCloseCause book acquired seats served)
+        unfolding seen_count seen_ordered seen_long seen_right
+        start_compared (Ok done) cause = tt
+        start_compared (Err error) cause =
+            start_cause book fresh seats (map (λ (one : Bor ReceiptOf). one.now) seen) seen_ordered seen_long replayed
+            seen_count seen_right acquired served told whole error
+            (subst (λ n. IsStartCause n acquired served error) slots_are cause)
 
-      pub closed_compared : All (IsTaken (book_log fresh)) served
-          → AreReached (length (book_checked book).catalog.subscriptions) served → All IsForwardSeat seats
-          → All IsTimedSeat seats → IsLogOfSeats (book_checked book) seats book
-          → IsClosed (book_checked book) (book_limit book) seats served fresh
-      unfolding seen_count seen_ordered seen_long seen_right
-      closed_compared taken reached forward timed logged =
-          is_closed book fresh seats (map (λ (one : Bor ReceiptOf). one.now) seen) seen_ordered seen_long replayed
-          seen_count served seen_right taken reached forward timed logged
+        pub closed_compared : {A : Type 0} (result : Result A CloseError)
+            → OnOk result (AreInTime slots acquired served) → All IsForwardSeat seats → All IsTimedSeat seats
+            → OnOk result (IsClosed (book_checked book) (book_limit book) seats served fresh)
+        unfolding seen_count seen_ordered seen_long seen_right
+        closed_compared (Ok done) times forward timed =
+            is_closed book fresh seats (map (λ (one : Bor ReceiptOf). one.now) seen) seen_ordered seen_long replayed
+            seen_count seen_right acquired served told whole
+            (subst (λ n. AreInTime n acquired served) slots_are times) forward timed
+        closed_compared (Err error) times forward timed = tt
 
 -- ---- the closed book
 
-pub still_closed : (checked : CheckedOf) (limit : ℕ) (seats : List SeatOf) (served : List Served)
+pub still_closed : (checked : CheckedOf) (limit : ℕ) (seats : List SeatOf) (served : List ServedOf)
     (old new : Book) → ChangesSlots old new (book_slots new) → IsClosed checked limit seats served old
     → IsClosed checked limit seats served new
 still_closed checked limit seats served old new changes closed = record {
@@ -289,17 +329,23 @@ still_closed checked limit seats served old new changes closed = record {
   forward = closed.forward;
   timed = closed.timed;
   taken = subst (λ (log : List CommitOf). All (IsTaken log) served) (sym changes.log) closed.taken;
+  seen = closed.seen;
+  events = closed.events;
+  known = closed.known;
+  had = closed.had;
+  starts = closed.starts;
+  ordered_starts = closed.ordered_starts;
   reached = closed.reached;
 }
 
 pub closed_as_named : (checked : CheckedOf) (limit : ℕ) (book fresh new : Book) (seats seen : List SeatOf)
-    (served told : List Served) → IsBookOf checked limit book → seen ≡ seats → told ≡ served
+    (served told : List ServedOf) → IsBookOf checked limit book → seen ≡ seats → told ≡ served
     → IsClosed (book_checked book) (book_limit book) seen told fresh → ChangesSlots fresh new (book_slots new)
     → IsClosed checked limit seats served new
 closed_as_named checked limit book fresh new seats seen served told is same alike closed changes =
     still_closed checked limit seats served fresh new changes
     (subst (λ (list : List SeatOf). IsClosed checked limit list served fresh) same
-    (subst (λ (list : List Served). IsClosed checked limit seen list fresh) alike
+    (subst (λ (list : List ServedOf). IsClosed checked limit seen list fresh) alike
     (subst (λ (n : ℕ). IsClosed checked n seen told fresh) is.limited
     (subst (λ (one : CheckedOf). IsClosed one (book_limit book) seen told fresh) is.named closed))))
 
@@ -317,33 +363,37 @@ all_counted (seat ∷ seats) =
     let rest = all_counted seats in let one = receipts_counted seat.notes in
     let both = length-append (receipts_in seat.notes) (all_receipts seats) in omega (arith, rest, one, both)
 
-held_back : (book : Book) (all left : ℕ) (seats : List SeatOf) (served : List Served) (error : CloseError)
-    → IsCounted all left seats (length (book_log book)) → IsCloseCause book seats served error
+held_back : (book : Book) (acquired all left : ℕ) (seats : List SeatOf) (served : List ServedOf) (error : CloseError)
+    → IsCounted all left seats (length (book_log book)) → IsCloseCause book acquired seats served error
     → IsHeldBack all left seats error
-held_back book all left seats served f.CountDiffers counted cause = by_test (ltb (left + length seats) all)
+held_back book acquired all left seats served f.CountDiffers counted cause = by_test (ltb (left + length seats) all)
     (λ less. ltb-true (left + length seats) all less)
     (λ full. let least = ltb-false (left + length seats) all full in let few = counted.few in
     absurd (cause (sym (counted.whole (omega (arith, least, few))) ∙ sym (all_counted seats))))
-held_back book all left seats served f.ReceiptMissing counted cause = tt
-held_back book all left seats served f.ReadingWrong counted cause = tt
-held_back book all left seats served f.TakenDiffers counted cause = tt
-held_back book all left seats served f.StartLate counted cause = tt
-held_back book all left seats served f.OutOfMemory counted cause = tt
+held_back book acquired all left seats served f.ReceiptMissing counted cause = tt
+held_back book acquired all left seats served f.ReadingWrong counted cause = tt
+held_back book acquired all left seats served f.TakenDiffers counted cause = tt
+held_back book acquired all left seats served f.ConnectionMissing counted cause = tt
+held_back book acquired all left seats served f.StartLate counted cause = tt
+held_back book acquired all left seats served f.OutOfMemory counted cause = tt
 
-module _ (checked : CheckedOf) (limit all left : ℕ) (book : Book) (seats : List SeatOf) (served : List Served)
-    (is : IsBookOf checked limit book) (counted : IsCounted all left seats (length (book_log book))) where
-  pub refused_as_named : (seen : List SeatOf) (told : List Served) (error : CloseError) → seen ≡ seats
-      → told ≡ served → IsCloseCause book seen told error → RefusedClose checked limit all left seats served error
+module _ (checked : CheckedOf) (limit all left : ℕ) (book : Book) (acquired : ℕ) (seats : List SeatOf)
+    (served : List ServedOf) (is : IsBookOf checked limit book)
+    (counted : IsCounted all left seats (length (book_log book))) where
+  pub refused_as_named : (seen : List SeatOf) (told : List ServedOf) (error : CloseError) → seen ≡ seats
+      → told ≡ served → IsCloseCause book acquired seen told error
+      → RefusedClose checked limit all left seats served error
   refused_as_named seen told error same alike cause =
-      let why : IsCloseCause book seats served error =
-      subst (λ (list : List SeatOf). IsCloseCause book list served error) same
-      (subst (λ (list : List Served). IsCloseCause book seen list error) alike cause) in
+      let why : IsCloseCause book acquired seats served error =
+      subst (λ (list : List SeatOf). IsCloseCause book acquired list served error) same
+      (subst (λ (list : List ServedOf). IsCloseCause book acquired seen list error) alike cause) in
       record {
         book = book;
+        acquired = acquired;
         is = is;
         counted = counted;
         cause = why;
-        held_back = held_back book all left seats served error counted why;
+        held_back = held_back book acquired all left seats served error counted why;
       }
 
   pub memory_refused : {A : Type 0} (result : Result A CloseError)
@@ -352,4 +402,4 @@ module _ (checked : CheckedOf) (limit all left : ℕ) (book : Book) (seats : Lis
   memory_refused (Ok done) memory = tt
   memory_refused (Err error) memory =
       subst (λ (other : CloseError). RefusedClose checked limit all left seats served other) (sym memory)
-      (record { book = book; is = is; counted = counted; cause = tt; held_back = tt })
+      (record { book = book; acquired = acquired; is = is; counted = counted; cause = tt; held_back = tt })

@@ -19,6 +19,7 @@ use Rattle.tables_log.specs.Routes.{commit_in}
 use Rattle.tables_log.specs.StandsFor.{Transaction, AreAccepted, StandsFor}
 use Rattle.tables_log.specs.declared.book.Book.{Book}
 use Rattle.copy_frames.specs.declared.frame.Frame.{Frame}
+use Rattle.copy_both.specs.HeardFrames.{BooksOf}
 use Rattle.copy_both.specs.Streams.{Move, stream}
 use Rattle.tables_log.specs.Lsn.{commits_before}
 use Rattle.copy_both.specs.Tellings.{telling_of}
@@ -38,8 +39,8 @@ use Rattle.stream_laws.proofs.FollowingBytesLemmas.{fed_follow, stopped_follow}
 use Rattle.stream_laws.proofs.LayoutRoomLemmas.{logs_fit_layouts}
 use Rattle.stream_laws.proofs.SentItems.{streams_can_be_sent}
 use Rattle.test_subscriber.specs.Subscribers.{sub_machine}
-use Rattle.senders.specs.Following.{ClientsFollow, ClientsStop, ClosedAreFollowed, ClosedAreTold, ClosedTellTheLog, IsFirstPart, IsLastPart, NoBytes, OfDone, ServedAreFirstParts}
-use Rattle.senders.specs.Serving.{IsAfterStream, IsStream, IsTail, commits_of}
+use Rattle.senders.specs.Following.{ClientsFollow, ClientsStop, ClosedAreFollowed, ClosedAreExplained, ClosedTellTheLog, IsFirstPart, IsLastPart, NoBytes, OfDone, ServedAreFirstParts}
+use Rattle.senders.specs.Serving.{IsAfterStream, IsStream, IsTail}
 use Rattle.senders.specs.Serving as serving
 
 -- ---- a list that is cut in two ways
@@ -82,9 +83,9 @@ none_between middle last rest tail is =
       length-append tail.front rest,
     ))
 
-module _ (checked : CheckedOf) (transactions : List Transaction) (frames : List Frame) (slot start : ℕ)
+module _ (checked : CheckedOf) (transactions : List Transaction) (known : BooksOf) (frames : List Frame) (slot start : ℕ)
     (taken : List CommitOf) (written : List ℕ) (failed : Bool) (why : End)
-    (is : IsStream checked frames slot start taken written failed why) where
+    (is : IsStream checked known frames slot start taken written failed why) where
   by_cut : (all : List ℕ)
       → all ≡ stream (telling_of checked) (log_of checked transactions) slot (length checked.catalog.tables) start
       is.moves → Cut written is.rest all is.last
@@ -121,12 +122,12 @@ log_is : (checked : CheckedOf) (book : Book) (transactions : List Transaction) �
 log_is checked book transactions named stands = stands.log ∙ ap (λ (k : CheckedOf). log_of k transactions) named
 
 pub served_are_first_parts : ServedAreFirstParts
-served_are_first_parts checked book transactions named stands frames slot start taken written failed why is at =
+served_are_first_parts checked book transactions named stands known frames slot start taken written failed why is at =
     let log : List CommitOf = log_of checked transactions in
     let there : AreAt log (commits_before start) taken =
     subst (λ (l : List CommitOf). AreAt l (commits_before start) taken)
     (log_is checked book transactions named stands) at in
-    by_cut checked transactions frames slot start taken written failed why is
+    by_cut checked transactions known frames slot start taken written failed why is
     (stream (telling_of checked) log slot (length checked.catalog.tables) start is.moves) refl
     (cut written is.rest (stream (telling_of checked) log slot (length checked.catalog.tables) start is.moves) is.last
     (is.bytes log there))
@@ -216,8 +217,8 @@ transactions_timed (receipt ∷ receipts) timed =
     (All-head IsTimedReceipt receipt receipts timed)
     (transactions_timed receipts (All-tail IsTimedReceipt receipt receipts timed))
 
-pub closed_are_told : ClosedAreTold
-closed_are_told checked limit seats served book closed =
+pub closed_are_explained : ClosedAreExplained
+closed_are_explained checked limit seats served book closed =
     let order : List ReceiptOf = closed.order in
     let each : All IsTimedReceipt order =
     All-permutation IsTimedReceipt (all_receipts seats) order closed.ordered.all (all_timed seats closed.timed) in
@@ -232,18 +233,18 @@ closed_are_told checked limit seats served book closed =
     }
 
 pub closed_tell_the_log : ClosedTellTheLog
-closed_tell_the_log checked limit seats served book closed one among frames slot start at written failed is =
+closed_tell_the_log checked limit seats served book closed one among known frames slot start at written failed is =
     let taken : IsTaken (book_log book) one = All-contains (IsTaken (book_log book)) served one closed.taken among in
-    served_are_first_parts checked book closed.transactions closed.named closed.stands frames slot start
-    (commits_of one) written failed one.end is
-    (subst (λ (o : Option ℕ). AreAt (book_log book) (commits_before (unwrap_or o 0)) (commits_of one)) at taken.at)
+    served_are_first_parts checked book closed.transactions closed.named closed.stands known frames slot start
+    one.taken written failed one.end is
+    (subst (λ (o : Option ℕ). AreAt (book_log book) (commits_before (unwrap_or o 0)) one.taken) at taken.at)
 
 pub closed_are_followed : ClosedAreFollowed
 closed_are_followed checked limit seats served book closed one frames slot start written part old between new follows
     at opens bytes rest is feeds =
     let view : CheckedOf = checked_view checked in
-    let told = closed_are_told view limit seats served book closed in
+    let explained = closed_are_explained view limit seats served book closed in
     let first : AreFirst view closed.transactions slot start part.moves bytes (rest ++ part.others) =
     sym (append_assoc bytes rest part.others) ∙ ap (λ (l : List ℕ). l ++ part.others) is ∙ part.first in
-    clients_follow checked closed.transactions told.accepted told.timed told.few slot start part.moves part.clocks old
+    clients_follow checked closed.transactions explained.accepted explained.timed explained.few slot start part.moves part.clocks old
     between new follows at opens bytes (rest ++ part.others) first feeds

@@ -1,6 +1,6 @@
 -- What a listener has heard, piece by piece.
-use Rattle.std.proofs.Common.{◌≡◌, ◌≤◌, ℕ, min, List, [], ◌++◌, length, refl, sym, ◌∙◌, ap, subst, append_assoc, append-nil, arith, take_all}
-use Rattle.std.specs.Prelude.{Bool, true, false, Option, Some, None, Result, Ok, Err, IfErr, slice_get}
+use Rattle.std.proofs.Common.{◌≡◌, ◌≤◌, ℕ, suc, min, List, [], ◌∷◌, ◌++◌, length, refl, sym, ◌∙◌, ap, subst, append_assoc, append-nil, arith, take_all}
+use Rattle.std.specs.Prelude.{Bool, true, false, Contains, Option, Some, None, Result, Ok, Err, IfErr, slice_get}
 use Rattle.std.proofs.Math.Nat.{le-max_left}
 use Rattle.std.proofs.KnownBytes.{Consumes-nil, Consumes-trans}
 use Rattle.shard_checker.specs.CheckedView.{CheckedOf, setting_in}
@@ -15,7 +15,7 @@ use Rattle.copy_frames.specs.Inboxes.{Inbox}
 use Rattle.copy_frames.specs.declared.fault.FrameFault.{FrameFault}
 use Rattle.copy_frames.specs.declared.frame.Frame.{Frame}
 use Rattle.copy_both.specs.Ears.{HearLeaves, ear_refusal, ear_started}
-use Rattle.copy_both.specs.HeardFrames.{AsksIfStarted, GoesOnOrEnds, HasLinkFault, HasHeard, Explains, IsAnswered, IsBookFor, frames_in, reach_of, sent_then, IsStartedBy}
+use Rattle.copy_both.specs.HeardFrames.{AsksIfStarted, BooksOf, GoesOnOrEnds, HasLinkFault, HasHeard, Explains, IsAnswered, IsBookFor, frames_in, reach_of, sent_then, IsStartedBy}
 use Rattle.copy_both.specs.declared.ear.Ear.{Ear}
 use Rattle.copy_both.specs.declared.heard.Heard.{Heard}
 use Rattle.copy_both.specs.declared.link_fault.LinkFault.{LinkFault}
@@ -23,14 +23,25 @@ use Rattle.copy_both.specs.declared.link_fault.LinkFault.TheVariants as fault
 use Rattle.copy_both.specs.declared.phase.Phase.{Phase}
 use Rattle.copy_both.specs.declared.phase.Phase.TheVariants as phase
 use Rattle.copy_both.specs.declared.session.Session.{Session}
-use Rattle.copy_both.proofs.PiecesHeard.{late_starts_are_requested, pieces_are_heard, requests_stay}
+use Rattle.copy_both.proofs.PiecesHeard.{asks_stay, late_starts_are_requested, pieces_are_heard, requests_stay}
 use Rattle.copy_both.specs.Hearing.{HearingOf, ServedFrom, first_sent, frames_heard, is_over, link_fault, then_fault, unless_over, with_fault}
 use Rattle.copy_both.specs.Listening.{Leaves, PieceLeaves, fed, held_frames, piece_heard, silence}
 use Rattle.copy_both.specs.Sessions.{hearing_view, served_by}
+use Rattle.publisher_desk.specs.Receipts.{transactions_of}
+use Rattle.publisher_desk.specs.SlotEvents.{no_use, use_after, use_by, use_from, uses_from, uses_in}
+use Rattle.publisher_desk.specs.SlotSights.{hold}
+use Rattle.publisher_desk.specs.Viewers.{IsUsed, SeesMore, ViewerOf, events_with, held_with}
 use Rattle.publisher_desk.specs.declared.connection_state.ConnectionState.{ConnectionState}
+use Rattle.publisher_desk.specs.declared.slot_event.Acquisition.{Acquisition}
+use Rattle.publisher_desk.specs.declared.slot_event.SlotEvent.{SlotEvent}
+use Rattle.publisher_desk.specs.declared.slot_event.SlotEvent.TheVariants.{Acquired}
+use Rattle.publisher_desk.specs.declared.slot_sight.Hold.{Hold}
 use Rattle.senders.specs.Hearing.{HearsPiece, IsExplained, IsSentFrom, StaysStarted, sent_after, sent_by}
-use Rattle.senders.specs.Listening.{EndsOf, HasListened, HeardPiece, HearsLast, HearsMore, HearsNext, SaysOfPiece, SaysRequested, next_by, next_by_end, piece_of}
+use Rattle.senders.specs.Listening.{AcquiresFor, EndsFor, EndsOf, HasListened, HeardPiece, HoldsStream, HearsLast, HearsMore, HearsNext, SaysOfPiece, SaysRequested, next_by, next_by_end, piece_of}
+use Rattle.senders.specs.Results.{acquisition, books_seen}
 use Rattle.senders.specs.declared.failed.Failed.{Failed}
+use Rattle.senders.specs.declared.listener.Listened.{Listened}
+use Rattle.senders.proofs.SeenLogs.{AreMore, books_more, heard_still, sees_on, sees_same}
 use Rattle.senders.specs.Pieces.{Pulls, PullsNothing, PullsPiece}
 use Rattle.senders.specs.declared.listener_end.ListenerEnd.{ListenerEnd}
 use Rattle.senders.specs.declared.listener_end.ListenerEnd.TheVariants as listener_end
@@ -110,20 +121,21 @@ abbrev LogReaches : Book → Ear → Result Heard LinkFault → Type 0
 LogReaches book ear heard =
     heard ≡ Err fault.StatusAhead → IsSentFrom (ear_started ear) (end_lsn_of (length (book_log book)))
 
-explained : (checked : CheckedOf) (bytes : List ℕ) (old new : Ear) (book : Book) (sent : ℕ)
-    (heard : Result Heard LinkFault) → IsBookFor checked book → IsSentFrom (ear_started old) sent
+explained : (checked : CheckedOf) (known : BooksOf) (bytes : List ℕ) (old new : Ear) (book : Book) (sent : ℕ)
+    (heard : Result Heard LinkFault) → IsBookFor checked known book → IsSentFrom (ear_started old) sent
     → LogReaches book new heard → StaysStarted old new
-    → IfErr heard (IsAnswered checked (frames_in bytes) (ear_refusal new))
-    → Explains checked bytes new (reach_of old new book sent) heard → IsExplained checked bytes new heard
-explained checked bytes old new book sent (Ok heard) is from reaches stays answered explains = explains
-explained checked bytes old new book sent (Err fault) is from reaches stays answered explains = record {
+    → IfErr heard (IsAnswered checked known (frames_in bytes) (ear_refusal new))
+    → Explains checked known bytes new (reach_of old new book sent) heard → IsExplained checked known bytes new heard
+explained checked known bytes old new book sent (Ok heard) is from reaches stays answered explains = explains
+explained checked known bytes old new book sent (Err fault) is from reaches stays answered explains = record {
   holds = record {
     transactions = is.transactions;
+    begins = is.begins;
     accepted = subst (λ (c : CheckedOf). AreAccepted (setting_in c) no_rows is.transactions) is.named
         is.stands.accepted;
     sent = sent_then (ear_started old) sent (ear_started new);
     from = sent_from (ear_started old) (ear_started new) sent from stays;
-    has = subst (λ (n : ℕ). HasLinkFault checked bytes
+    has = subst (λ (n : ℕ). HasLinkFault checked known bytes
         (min (sent_then (ear_started old) sent (ear_started new)) (end_lsn_of n)) fault)
         (each_is_logged book is.transactions is.stands) explains;
     reaches = λ ahead. subst (λ (n : ℕ). IsSentFrom (ear_started new) (end_lsn_of n))
@@ -141,91 +153,231 @@ from_start : (started : Option (ℕ × ℕ)) (connections : List ConnectionState
 from_start None connections = tt
 from_start (Some started) connections = from_first (first_sent started.1) (slice_get connections started.0)
 
-pub hears_piece : (checked : CheckedOf) (before after : Listener) (old new : Book) (connections : List ConnectionState)
-    (heard : Result Heard LinkFault) → IsBookFor checked old → HeardPiece before after old new connections heard
-    → HearsPiece checked (piece_of before) before.ear after.ear heard
-hears_piece checked before after old new connections heard is did = record {
-  each = λ bytes has.
-      let sent : ℕ = sent_by (ear_started before.ear) connections in
-      let on = pieces_are_heard checked bytes (piece_of before) before.ear after.ear old new sent heard has is
-      did.answer did.left in
-      record {
-        stays = on.stays;
-        asks = on.asks;
-        explained = explained checked (bytes ++ piece_of before) before.ear after.ear old sent heard is
-            (from_start (ear_started before.ear) connections) did.reaches on.stays on.answered on.explains;
-      };
-}
+first_or : Option (ℕ × ℕ) → ℕ
+first_or None = 0
+first_or (Some started) = first_sent started.1
 
--- ---- the requested start
+from_first_or : (started : Option (ℕ × ℕ)) → IsSentFrom started (first_or started)
+unfolding first_or
+from_first_or None = tt
+from_first_or (Some started) = omega arith
 
-says_of_piece : (checked : CheckedOf) (before after : Listener) (old new : Book) (connections : List ConnectionState)
-    (heard : Result Heard LinkFault) → IsBookFor checked old → HeardPiece before after old new connections heard
-    → (bytes : List ℕ) → HasListened checked bytes before → (was : Option (ℕ × ℕ)) → ear_started before.ear ≡ was
-    → SaysRequested (bytes ++ piece_of before) after
-says_of_piece checked before after old new connections heard is did bytes has None none slot start started says =
-    late_starts_are_requested checked bytes (piece_of before) before.ear after.ear old new
-    (sent_by (ear_started before.ear) connections) heard has.heard is did.left none slot start started
-    (did.compares.late none slot start started says)
-says_of_piece checked before after old new connections heard is did bytes has (Some was) some slot start started says =
-    let on = pieces_are_heard checked bytes (piece_of before) before.ear after.ear old new
-    (sent_by (ear_started before.ear) connections) heard has.heard is did.answer did.left in
-    let both : Some was ≡ Some (slot, start) = sym (on.stays was some) ∙ started in
-    let same : was ≡ (slot, start) = cc in
-    requests_stay checked bytes (piece_of before) before.ear slot start has.heard
-    (has.requested slot start (some ∙ ap (λ (s : ℕ × ℕ). Some s) same) (sym (did.compares.stays was some) ∙ says))
+-- what is known of a piece under the lock, by what its connection has seen
+module _ (checked : CheckedOf) (was now : ViewerOf) (more : AreMore (books_seen was) (books_seen now))
+    (before after : Listener) (old new : Book) (connections : List ConnectionState) (heard : Result Heard LinkFault)
+    (is : IsBookFor checked (books_seen now) old) (did : HeardPiece before after old new connections heard) where
+  abbrev known : BooksOf
+  known = books_seen now
 
-pub says_requested : (checked : CheckedOf) (before after : Listener) (old new : Book)
-    (connections : List ConnectionState) (heard : Result Heard LinkFault) → IsBookFor checked old
-    → HeardPiece before after old new connections heard → SaysOfPiece checked (piece_of before) before after
-says_requested checked before after old new connections heard is did = record {
-  each = λ bytes has.
-      says_of_piece checked before after old new connections heard is did bytes has (ear_started before.ear) refl;
-}
+  abbrev sent : ℕ
+  sent = sent_by (ear_started before.ear) connections
+
+  has_now : (bytes : List ℕ) → HasHeard checked (books_seen was) bytes before.ear → HasHeard checked known bytes before.ear
+  has_now bytes has = heard_still checked (books_seen was) known more bytes before.ear has
+
+  pub hears_piece : HearsPiece checked was now (piece_of before) before.ear after.ear heard
+  hears_piece = record {
+    each = λ bytes has.
+        let on = pieces_are_heard checked known bytes (piece_of before) before.ear after.ear old new sent heard
+        (has_now bytes has) is did.answer did.left in
+        record {
+          stays = on.stays;
+          asks = on.asks;
+          explained = explained checked known (bytes ++ piece_of before) before.ear after.ear old sent heard is
+              (from_start (ear_started before.ear) connections) did.reaches on.stays on.answered on.explains;
+        };
+  }
+
+  says_of_piece : (bytes : List ℕ) → HasListened checked was bytes before → (start : Option (ℕ × ℕ))
+      → ear_started before.ear ≡ start → SaysRequested (bytes ++ piece_of before) after
+  says_of_piece bytes has None none slot start started says =
+      late_starts_are_requested checked known bytes (piece_of before) before.ear after.ear old new
+      sent heard (has_now bytes has.heard) is did.left none slot start started
+      (did.compares.late none slot start started says)
+  says_of_piece bytes has (Some one) some slot start started says =
+      let on = pieces_are_heard checked known bytes (piece_of before) before.ear after.ear old new
+      sent heard (has_now bytes has.heard) is did.answer did.left in
+      let both : Some one ≡ Some (slot, start) = sym (on.stays one some) ∙ started in
+      let same : one ≡ (slot, start) = cc in
+      requests_stay checked (books_seen was) bytes (piece_of before) before.ear slot start has.heard
+      (has.requested slot start (some ∙ ap (λ (s : ℕ × ℕ). Some s) same) (sym (did.compares.stays one some) ∙ says))
+
+  pub says_requested : (bytes : List ℕ) → HasListened checked was bytes before
+      → SaysRequested (bytes ++ piece_of before) after
+  says_requested bytes has = says_of_piece bytes has (ear_started before.ear) refl
+
+-- ---- the slot
+
+holding_as : (start : Option (ℕ × ℕ)) (is_requested other : Bool) (number : ℕ) (held : Option Hold)
+    → ((started : ℕ × ℕ) → start ≡ Some started → other ≡ is_requested) → HoldsStream start is_requested number held
+    → HoldsStream start other number held
+holding_as None is_requested other number held same holds = holds
+holding_as (Some started) is_requested other number held same holds =
+    holds ∙ ap (λ (b : Bool). Some (hold (acquisition started.0 started.1 b) number)) (sym (same started refl))
+
+kept_start : (was now : Option (ℕ × ℕ)) → ((started : ℕ × ℕ) → was ≡ Some started → now ≡ Some started)
+    → (was ≡ None → now ≡ None) → now ≡ was
+kept_start None now stays none = none refl
+kept_start (Some started) now stays none = stays started refl
+
+-- a piece keeps what the connection has, or it acquires the slot of the stream that starts
+holding_after : (before after : Listener) (was now : Option Hold) (number : ℕ) (acquired : Option Acquisition)
+    → StaysStarted before.ear after.ear
+    → ((started : ℕ × ℕ) → ear_started before.ear ≡ Some started → after.is_requested ≡ before.is_requested)
+    → AcquiresFor before after number acquired → now ≡ held_with acquired number was
+    → HoldsStream (ear_started before.ear) before.is_requested before.number was
+    → HoldsStream (ear_started after.ear) after.is_requested after.number now
+holding_after before after was now number None runs stays acquires same holds =
+    subst (λ (start : Option (ℕ × ℕ)). HoldsStream start after.is_requested after.number now)
+    (sym (kept_start (ear_started before.ear) (ear_started after.ear) runs acquires.0))
+    (subst (λ (n : ℕ). HoldsStream (ear_started before.ear) after.is_requested n now) (sym acquires.1)
+    (subst (HoldsStream (ear_started before.ear) after.is_requested before.number) (sym same)
+    (holding_as (ear_started before.ear) before.is_requested after.is_requested before.number was stays holds)))
+holding_after before after was now number (Some one) runs stays acquires same holds =
+    subst (λ (start : Option (ℕ × ℕ)). HoldsStream start after.is_requested after.number now) (sym acquires.1)
+    (same ∙ (ap (λ (b : Bool). Some (hold (acquisition one.slot one.start b) number)) (sym acquires.2)
+    ∙ ap (λ (n : ℕ). Some (hold (acquisition one.slot one.start after.is_requested) n)) (sym acquires.3)))
+
+-- the slots in use after all events are among those of its beginnings
+uses_last : (used : ℕ → Bool) (events more : List SlotEvent)
+    → Contains (uses_from used (events ++ more)) (use_from used events)
+uses_last used [] [] = (0, omega arith, refl)
+uses_last used [] (event ∷ more) = (0, omega arith, refl)
+uses_last used (event ∷ events) more =
+    let rest = uses_last (use_by event used) events more in
+    let low = rest.1 in (suc rest.0, omega (arith, low), rest.2)
+
+use_among : (acquired : Option Acquisition) (events now : List SlotEvent) → now ≡ events_with acquired events
+    → Contains (uses_in now) (use_after events)
+use_among None events now same =
+    subst (λ (list : List SlotEvent). Contains (uses_in list) (use_after events)) (append-nil events ∙ sym same)
+    (uses_last no_use events [])
+use_among (Some one) events now same =
+    subst (λ (list : List SlotEvent). Contains (uses_in list) (use_after events)) (sym same)
+    (uses_last no_use events (Acquired one ∷ []))
+
+-- ---- a use of the slots by a listener
+
+-- what a listener does with the book that it is lent
+abbrev pub ListenerDid : Listener → Listener → Book → Book → List ConnectionState → List ConnectionState → ℕ
+    → Option Acquisition → Listened → Type 0
+ListenerDid before after old new connections left number acquired listened =
+    HeardPiece before after old new connections listened.heard × AcquiresFor before after number acquired
+
+module _ (checked : CheckedOf) (was now : ViewerOf) (sees : SeesMore was now) (before after : Listener)
+    (listened : Listened) (used : IsUsed ListenerDid checked was now before after listened) where
+  abbrev book_was : IsBookFor checked (books_seen now) used.lent.old
+  book_was = record {
+    named = used.lent.named;
+    transactions = used.lent.transactions;
+    stands = used.lent.stands;
+    begins = record { later = []; log_is = used.log_is ∙ sym (append-nil used.lent.transactions) };
+    used = use_after used.events;
+    among = use_among used.acquired used.events now.events used.events_are;
+    slots_are = used.used;
+  }
+
+  pub heard_used : HearsPiece checked was now (piece_of before) before.ear after.ear listened.heard
+  heard_used = hears_piece checked was now (books_more was now sees) before after used.lent.old used.lent.new
+      used.lent.connections listened.heard book_was used.lent.does.0
+
+  pub says_used : SaysOfPiece checked was now (piece_of before) before after
+  says_used = record {
+    each = λ bytes has. says_requested checked was now (books_more was now sees) before after used.lent.old
+        used.lent.new used.lent.connections listened.heard book_was used.lent.does.0 bytes has;
+    holding = λ bytes has. holding_after before after was.held now.held used.number used.acquired
+        (heard_used.each bytes has.heard).stays used.lent.does.0.compares.stays used.lent.does.1 used.held_is
+        has.holding;
+    sees = sees;
+  }
+
+-- nothing was heard
+module _ (checked : CheckedOf) (was now : ViewerOf) (same : now ≡ was) (before after : Listener) (unused : after ≡ before)
+  where
+    pub heard_nothing : HearsPiece checked was now (piece_of before) before.ear after.ear (Err fault.OutOfMemory)
+    heard_nothing = subst (λ (l : Listener). HearsPiece checked was now (piece_of before) before.ear l.ear
+        (Err fault.OutOfMemory)) (sym unused)
+        (subst (λ (v : ViewerOf). HearsPiece checked was v (piece_of before) before.ear before.ear
+        (Err fault.OutOfMemory)) (sym same) (record {
+          each = λ bytes has. record {
+            stays = λ started is. is;
+            asks = asks_stay checked (books_seen was) bytes (piece_of before) before.ear has;
+            explained = record {
+              holds = record {
+                transactions = [];
+                begins = record { later = transactions_of was.seen; log_is = refl };
+                accepted = tt;
+                sent = first_or (ear_started before.ear);
+                from = from_first_or (ear_started before.ear);
+                has = tt;
+                reaches = λ ahead. absurd cc;
+              };
+              answered = tt;
+            };
+          };
+        }))
+
+    pub says_nothing : SaysOfPiece checked was now (piece_of before) before after
+    says_nothing = subst (λ (l : Listener). SaysOfPiece checked was now (piece_of before) before l) (sym unused)
+        (subst (λ (v : ViewerOf). SaysOfPiece checked was v (piece_of before) before before) (sym same) (record {
+          each = λ bytes has slot start started says.
+              requests_stay checked (books_seen was) bytes (piece_of before) before.ear slot start has.heard
+              (has.requested slot start started says);
+          holding = λ bytes has. has.holding;
+          sees = sees_same was;
+        }))
 
 -- ---- a read
 
-asks_on : (checked : CheckedOf) (bytes : List ℕ) (started : Option (ℕ × ℕ))
-    → IsStartedBy checked (frames_in bytes) started → AsksIfStarted checked (frames_in bytes) started
-asks_on checked bytes None by = tt
-asks_on checked bytes (Some started) by = by
+asks_on : (checked : CheckedOf) (known : BooksOf) (bytes : List ℕ) (started : Option (ℕ × ℕ))
+    → IsStartedBy checked known (frames_in bytes) started → AsksIfStarted checked known (frames_in bytes) started
+asks_on checked known bytes None by = tt
+asks_on checked known bytes (Some started) by = by
 
-pub has_asked : (checked : CheckedOf) (bytes : List ℕ) (ear : Ear) → HasHeard checked bytes ear
-    → AsksIfStarted checked (frames_in bytes) (ear_started ear)
-has_asked checked bytes ear has = asks_on checked bytes (ear_started ear) has.started
+pub has_asked : (checked : CheckedOf) (known : BooksOf) (bytes : List ℕ) (ear : Ear) → HasHeard checked known bytes ear
+    → AsksIfStarted checked known (frames_in bytes) (ear_started ear)
+has_asked checked known bytes ear has = asks_on checked known bytes (ear_started ear) has.started
 
 -- with the same ear, and said of it the same
-same_listened : (checked : CheckedOf) (bytes : List ℕ) (old new : Listener) → new.ear ≡ old.ear
-    → new.is_requested ≡ old.is_requested → HasListened checked bytes old → HasListened checked bytes new
-same_listened checked bytes old new same said has = record {
-  heard = subst (HasHeard checked bytes) (sym same) has.heard;
+same_listened : (checked : CheckedOf) (viewer : ViewerOf) (bytes : List ℕ) (old new : Listener) → new.ear ≡ old.ear
+    → new.is_requested ≡ old.is_requested → new.number ≡ old.number → HasListened checked viewer bytes old
+    → HasListened checked viewer bytes new
+same_listened checked viewer bytes old new same said number has = record {
+  heard = subst (HasHeard checked (books_seen viewer) bytes) (sym same) has.heard;
   requested = λ slot start started says.
       has.requested slot start (sym (ap ear_started same) ∙ started) (sym said ∙ says);
+  holding = subst (λ (ear : Ear). HoldsStream (ear_started ear) new.is_requested new.number viewer.held) (sym same)
+      (subst (λ (b : Bool). HoldsStream (ear_started old.ear) b new.number viewer.held) (sym said)
+      (subst (λ (n : ℕ). HoldsStream (ear_started old.ear) old.is_requested n viewer.held) (sym number) has.holding));
 }
 
 stays_from : (old middle new : Ear) → middle ≡ old → StaysStarted middle new → StaysStarted old new
 stays_from old middle new same stays = subst (λ (ear : Ear). StaysStarted ear new) same stays
 
-module _ (checked : CheckedOf) (left now_left : Option (List ℕ)) (failed ended : Bool) (old middle new : Listener)
+module _ (checked : CheckedOf) (was now : ViewerOf) (left now_left : Option (List ℕ)) (failed ended : Bool)
+    (old middle new : Listener)
     (pulls : PullsPiece left now_left (piece_of middle) old middle)
     (room : length new.piece.items ≡ length middle.piece.items)
-    (says : SaysOfPiece checked (piece_of middle) middle new) where
-  has_pulled : (bytes : List ℕ) → HasListened checked bytes old → HasListened checked bytes middle
-  has_pulled bytes has = same_listened checked bytes old middle pulls.ear pulls.same has
+    (says : SaysOfPiece checked was now (piece_of middle) middle new) where
+  has_pulled : (bytes : List ℕ) → HasListened checked was bytes old → HasListened checked was bytes middle
+  has_pulled bytes has = same_listened checked was bytes old middle pulls.ear pulls.same pulls.number has
 
-  by_end : (was_over : Bool) (heard : Heard) → HearsPiece checked (piece_of middle) middle.ear new.ear (Ok heard)
+  by_end : (was_over : Bool) (heard : Heard)
+      → HearsPiece checked was now (piece_of middle) middle.ear new.ear (Ok heard)
       → (kind : Option ℕ) → heard.ended ≡ kind
-      → HearsNext checked left now_left failed ended old new (next_by_end was_over kind)
+      → HearsNext checked was now left now_left failed ended old new (next_by_end was_over kind)
   by_end was_over heard hears None none = record {
     more = piece_of middle;
     read = pulls.read;
+    sees = says.sees;
     heard = λ bytes has.
         let listened = has_pulled bytes has in
         let one = hears.each bytes listened.heard in
         record {
           has = record {
-            heard = subst (GoesOnOrEnds checked (bytes ++ piece_of middle) new.ear) none one.explained;
+            heard = subst (GoesOnOrEnds checked (books_seen now) (bytes ++ piece_of middle) new.ear) none one.explained;
             requested = says.each bytes listened;
+            holding = says.holding bytes listened;
           };
           stays = stays_from old.ear middle.ear new.ear pulls.ear one.stays;
         };
@@ -234,24 +386,27 @@ module _ (checked : CheckedOf) (left now_left : Option (List ℕ)) (failed ended
   by_end was_over heard hears (Some kind) some = record {
     more = piece_of middle;
     read = pulls.read;
+    sees = says.sees;
     ends = λ bytes has.
         let listened = has_pulled bytes has in
         let one = hears.each bytes listened.heard in
         record {
           asks = one.asks;
-          ends = subst (GoesOnOrEnds checked (bytes ++ piece_of middle) new.ear) some one.explained;
+          ends = subst (GoesOnOrEnds checked (books_seen now) (bytes ++ piece_of middle) new.ear) some one.explained;
           stays = stays_from old.ear middle.ear new.ear pulls.ear one.stays;
           requested = says.each bytes listened;
+          holding = says.holding bytes listened;
         };
   }
 
   pub hears_next : (was_over : Bool) (heard : Result Heard LinkFault)
-      → HearsPiece checked (piece_of middle) middle.ear new.ear heard
-      → HearsNext checked left now_left failed ended old new (next_by was_over heard)
+      → HearsPiece checked was now (piece_of middle) middle.ear new.ear heard
+      → HearsNext checked was now left now_left failed ended old new (next_by was_over heard)
   hears_next was_over (Ok heard) hears = by_end was_over heard hears heard.ended refl
   hears_next was_over (Err fault) hears = record {
     more = piece_of middle;
     read = pulls.read;
+    sees = says.sees;
     ends = λ bytes has.
         let listened = has_pulled bytes has in
         let one = hears.each bytes listened.heard in
@@ -260,101 +415,107 @@ module _ (checked : CheckedOf) (left now_left : Option (List ℕ)) (failed ended
           ends = one.explained;
           stays = stays_from old.ear middle.ear new.ear pulls.ear one.stays;
           requested = says.each bytes listened;
+          holding = says.holding bytes listened;
         };
   }
 
 -- nothing was read, as the source says
-asks_still : (checked : CheckedOf) (bytes : List ℕ) (new : Listener) → HasListened checked bytes new
-    → AsksIfStarted checked (frames_in (bytes ++ [])) (ear_started new.ear)
-asks_still checked bytes new has =
-    subst (λ (all : List ℕ). AsksIfStarted checked (frames_in all) (ear_started new.ear)) (sym (append-nil bytes))
-    (has_asked checked bytes new.ear has.heard)
+asks_still_for : (checked : CheckedOf) (viewer : ViewerOf) (bytes : List ℕ) (new : Listener)
+    → HasListened checked viewer bytes new
+    → AsksIfStarted checked (books_seen viewer) (frames_in (bytes ++ [])) (ear_started new.ear)
+asks_still_for checked viewer bytes new has =
+    subst (λ (all : List ℕ). AsksIfStarted checked (books_seen viewer) (frames_in all) (ear_started new.ear))
+    (sym (append-nil bytes)) (has_asked checked (books_seen viewer) bytes new.ear has.heard)
 
-says_still : (checked : CheckedOf) (bytes : List ℕ) (new : Listener) → HasListened checked bytes new
-    → SaysRequested (bytes ++ []) new
-says_still checked bytes new has =
+says_still : (checked : CheckedOf) (viewer : ViewerOf) (bytes : List ℕ) (new : Listener)
+    → HasListened checked viewer bytes new → SaysRequested (bytes ++ []) new
+says_still checked viewer bytes new has =
     subst (λ (all : List ℕ). SaysRequested all new) (sym (append-nil bytes)) has.requested
 
 stays_same : (old new : Ear) → new ≡ old → StaysStarted old new
 stays_same old new same started is = ap ear_started same ∙ is
 
-pub read_fails : (checked : CheckedOf) (left now_left : Option (List ℕ)) (failed ended : Bool) (old new : Listener)
-    → PullsNothing left now_left failed old new
-    → HearsLast checked left now_left failed ended old new listener_end.SourceFailed
-read_fails checked left now_left failed ended old new pulls = record {
-  more = [];
-  read = pulls.read;
-  ends = λ bytes has.
-      let listened = same_listened checked bytes old new pulls.ear pulls.same has in
-      record {
-        asks = asks_still checked bytes new listened;
-        ends = pulls.said;
-        stays = stays_same old.ear new.ear pulls.ear;
-        requested = says_still checked bytes new listened;
-      };
-}
+module _ (checked : CheckedOf) (viewer : ViewerOf) (left now_left : Option (List ℕ)) (failed ended : Bool)
+    (old new : Listener) where
+  nothing_read : (says : Bool) (why : ListenerEnd) → PullsNothing left now_left says old new
+      → ((bytes : List ℕ) → EndsFor checked (books_seen viewer) bytes (ear_started new.ear) (ear_refusal new.ear) failed
+      ended why)
+      → HearsLast checked viewer viewer left now_left failed ended old new why
+  nothing_read says why pulls ends = record {
+    more = [];
+    read = pulls.read;
+    sees = sees_same viewer;
+    ends = λ bytes has.
+        let listened = same_listened checked viewer bytes old new pulls.ear pulls.same pulls.number has in
+        record {
+          asks = asks_still_for checked viewer bytes new listened;
+          ends = ends (bytes ++ []);
+          stays = stays_same old.ear new.ear pulls.ear;
+          requested = says_still checked viewer bytes new listened;
+          holding = listened.holding;
+        };
+  }
 
-pub read_ends : (checked : CheckedOf) (left now_left : Option (List ℕ)) (failed ended : Bool) (old new : Listener)
-    → PullsNothing left now_left ended old new
-    → HearsLast checked left now_left failed ended old new listener_end.SourceEnded
-read_ends checked left now_left failed ended old new pulls = record {
-  more = [];
-  read = pulls.read;
-  ends = λ bytes has.
-      let listened = same_listened checked bytes old new pulls.ear pulls.same has in
-      record {
-        asks = asks_still checked bytes new listened;
-        ends = pulls.said;
-        stays = stays_same old.ear new.ear pulls.ear;
-        requested = says_still checked bytes new listened;
-      };
-}
+  pub read_fails : PullsNothing left now_left failed old new
+      → HearsLast checked viewer viewer left now_left failed ended old new listener_end.SourceFailed
+  read_fails pulls = nothing_read failed listener_end.SourceFailed pulls (λ bytes. pulls.said)
+
+  pub read_ends : PullsNothing left now_left ended old new
+      → HearsLast checked viewer viewer left now_left failed ended old new listener_end.SourceEnded
+  read_ends pulls = nothing_read ended listener_end.SourceEnded pulls (λ bytes. pulls.said)
 
 -- ---- reads, one after another
 
-pub hears_nothing : (checked : CheckedOf) (left : Option (List ℕ)) (listener : Listener)
-    → HearsMore checked left left listener listener
-hears_nothing checked left listener = record {
+pub hears_nothing : (checked : CheckedOf) (viewer : ViewerOf) (left : Option (List ℕ)) (listener : Listener)
+    → HearsMore checked viewer viewer left left listener listener
+hears_nothing checked viewer left listener = record {
   more = [];
   read = Consumes-nil left;
+  sees = sees_same viewer;
   heard = λ bytes has. record {
-    has = subst (λ (all : List ℕ). HasListened checked all listener) (sym (append-nil bytes)) has;
+    has = subst (λ (all : List ℕ). HasListened checked viewer all listener) (sym (append-nil bytes)) has;
     stays = λ started is. is;
   };
   room = refl;
 }
 
-module _ (checked : CheckedOf) (left middle_left last_left : Option (List ℕ)) (old middle new : Listener)
-    (first : HearsMore checked left middle_left old middle) where
-  pub hears_more : HearsMore checked middle_left last_left middle new → HearsMore checked left last_left old new
+module _ (checked : CheckedOf) (was between now : ViewerOf) (left middle_left last_left : Option (List ℕ))
+    (old middle new : Listener) (first : HearsMore checked was between left middle_left old middle) where
+  pub hears_more : HearsMore checked between now middle_left last_left middle new
+      → HearsMore checked was now left last_left old new
   hears_more then = record {
     more = first.more ++ then.more;
     read = Consumes-trans left middle_left last_left first.more then.more first.read then.read;
+    sees = sees_on was between now first.sees then.sees;
     heard = λ bytes has.
         let one = first.heard bytes has in
         let two = then.heard (bytes ++ first.more) one.has in
         record {
-          has = subst (λ (all : List ℕ). HasListened checked all new) (append_assoc bytes first.more then.more) two.has;
+          has = subst (λ (all : List ℕ). HasListened checked now all new) (append_assoc bytes first.more then.more)
+              two.has;
           stays = λ started is. two.stays started (one.stays started is);
         };
     room = then.room ∙ first.room;
   }
 
   pub hears_last : (failed ended : Bool) (why : ListenerEnd)
-      → HearsLast checked middle_left last_left failed ended middle new why
-      → HearsLast checked left last_left failed ended old new why
+      → HearsLast checked between now middle_left last_left failed ended middle new why
+      → HearsLast checked was now left last_left failed ended old new why
   hears_last failed ended why then = record {
     more = first.more ++ then.more;
     read = Consumes-trans left middle_left last_left first.more then.more first.read then.read;
+    sees = sees_on was between now first.sees then.sees;
     ends = λ bytes has.
         let one = first.heard bytes has in
         let two = then.ends (bytes ++ first.more) one.has in
-        subst (λ (all : List ℕ). EndsOf checked all old new failed ended why) (append_assoc bytes first.more then.more)
+        subst (λ (all : List ℕ). EndsOf checked now all old new failed ended why)
+        (append_assoc bytes first.more then.more)
         (record {
           asks = two.asks;
           ends = two.ends;
           stays = λ started is. two.stays started (one.stays started is);
           requested = two.requested;
+          holding = two.holding;
         });
   }
 
@@ -366,14 +527,17 @@ pub pulled : (left now_left : Option (List ℕ)) (failed ended : Bool) (old new 
 pulled left now_left failed ended old new result more is some pulls =
     subst (Pulls left now_left failed ended old new) (is ∙ ap (λ (b : Bool). Ok b) some) pulls
 
-module _ (checked : CheckedOf) (left middle_left last_left : Option (List ℕ)) (failed ended : Bool)
-    (old middle new : Listener) (first : HearsMore checked left middle_left old middle) (result : Next)
-    (hears : HearsNext checked middle_left last_left failed ended middle new result) where
-  pub on_after : (was_over : Bool) → result ≡ next.GoesOn was_over → HearsMore checked left last_left old new
+module _ (checked : CheckedOf) (was between now : ViewerOf) (left middle_left last_left : Option (List ℕ))
+    (failed ended : Bool) (old middle new : Listener)
+    (first : HearsMore checked was between left middle_left old middle) (result : Next)
+    (hears : HearsNext checked between now middle_left last_left failed ended middle new result) where
+  pub on_after : (was_over : Bool) → result ≡ next.GoesOn was_over
+      → HearsMore checked was now left last_left old new
   on_after was_over is =
-      hears_more checked left middle_left last_left old middle new first
-      (subst (HearsNext checked middle_left last_left failed ended middle new) is hears)
+      hears_more checked was between now left middle_left last_left old middle new first
+      (subst (HearsNext checked between now middle_left last_left failed ended middle new) is hears)
 
-  pub last_after : (why : ListenerEnd) → result ≡ next.Ends why → HearsLast checked left last_left failed ended old new why
-  last_after why is = hears_last checked left middle_left last_left old middle new first failed ended why
-      (subst (HearsNext checked middle_left last_left failed ended middle new) is hears)
+  pub last_after : (why : ListenerEnd) → result ≡ next.Ends why
+      → HearsLast checked was now left last_left failed ended old new why
+  last_after why is = hears_last checked was between now left middle_left last_left old middle new first failed ended why
+      (subst (HearsNext checked between now middle_left last_left failed ended middle new) is hears)

@@ -1,3 +1,4 @@
+pub mod BeginningLemmas
 pub mod ClosingLemmas
 pub mod ConnectionLemmas
 pub mod Crossing
@@ -11,10 +12,13 @@ pub mod ReachLemmas
 pub mod RefusedLemmas
 pub mod ReplayLemmas
 pub mod Rules
+pub mod SeenLogs
 pub mod SendingLemmas
 pub mod ServingLemmas
 pub mod SkippingLemmas
 pub mod SpeakingLemmas
+pub mod StartingLemmas
 pub mod StreamingLemmas
 pub mod TakenLemmas
+pub mod WitnessLemmas
 pub mod WritingLemmas

@@ -30,8 +30,8 @@ use Rattle.publisher_desk.proofs.KeptLemmas.{times_append}
 use Rattle.publisher_desk.proofs.LoggedLemmas.{length_transactions, transactions_append}
 use Rattle.senders.specs.CloseCauses.{IsUnlike, IsRefusedThere, IsOtherThere, IsMissing, IsFalling, IsRepeated, IsNotLogged, HasWrongReading, IsCloseCause, CanCome}
 use Rattle.senders.specs.Gathering.{receipts_in, readings_in, all_receipts, all_readings, numbers_of, IsRisingSeat}
-use Rattle.senders.specs.Histories.{AreInOrder, IsRight}
-use Rattle.senders.specs.declared.served.Served.{Served}
+use Rattle.senders.specs.Histories.{AreInOrder, AreWitnessed, IsRight}
+use Rattle.senders.specs.Results.{ServedOf}
 use Rattle.senders.specs.declared.close_error.CloseError.{CloseError}
 use Rattle.senders.specs.declared.close_error.CloseError.TheVariants as f
 
@@ -57,7 +57,8 @@ numbers_are [] = refl
 numbers_are (Committed receipt ∷ notes) = ap (λ (list : List ℕ). receipt.number ∷ list) (numbers_are notes)
 numbers_are (Looked reading ∷ notes) = numbers_are notes
 
-numbers_append : (receipts more : List ReceiptOf) → numbers_of (receipts ++ more) ≡ numbers_of receipts ++ numbers_of more
+numbers_append : (receipts more : List ReceiptOf)
+    → numbers_of (receipts ++ more) ≡ numbers_of receipts ++ numbers_of more
 numbers_append [] more = refl
 numbers_append (receipt ∷ receipts) more =
     ap (λ (list : List ℕ). receipt.number ∷ list) (numbers_append receipts more)
@@ -168,11 +169,13 @@ all_read setting log (seat ∷ seats) each =
 
 same_place : (before earlier rest later : List ReceiptOf) (x receipt : ReceiptOf) → length before ≡ length earlier
     → before ++ x ∷ rest ≡ earlier ++ receipt ∷ later → receipt ≡ x
-same_place [] [] rest later x receipt long same = some_is receipt x (ap (λ (list : List ReceiptOf). slice_get list 0) (sym same))
+same_place [] [] rest later x receipt long same =
+    some_is receipt x (ap (λ (list : List ReceiptOf). slice_get list 0) (sym same))
 same_place [] (one ∷ earlier) rest later x receipt long same = absurd (omega (arith, long))
 same_place (one ∷ before) [] rest later x receipt long same = absurd (omega (arith, long))
 same_place (one ∷ before) (other ∷ earlier) rest later x receipt long same =
-    same_place before earlier rest later x receipt (omega (arith, long)) (ap (λ (list : List ReceiptOf). drop_one list) same)
+    same_place before earlier rest later x receipt (omega (arith, long))
+    (ap (λ (list : List ReceiptOf). drop_one list) same)
   where
     drop_one : List ReceiptOf → List ReceiptOf
     drop_one [] = []
@@ -235,27 +238,27 @@ entry_is setting tables number (first ∷ order) (suc place) receipt at =
 
 -- ---- no cause
 
-module _ (checked : CheckedOf) (book : Book) (seats : List SeatOf) (named : book_checked book ≡ checked)
-    (logged : IsLogOfSeats checked seats book) where
-  long : length (book_log book) ≡ length logged.log
-  long = each_is_logged book (transactions_of logged.log) logged.stands ∙ length_transactions logged.log
+module _ (checked : CheckedOf) (log : List ReceiptOf) (book : Book) (seats : List SeatOf)
+    (named : book_checked book ≡ checked) (logged : IsLogOfSeats checked log seats book) where
+  pub long : length (book_log book) ≡ length log
+  long = each_is_logged book (transactions_of log) logged.stands ∙ length_transactions log
 
-  standing : All (StandsIn logged.log) (all_receipts seats)
-  standing = all_stand (setting_in checked) logged.log seats logged.each
+  standing : All (StandsIn log) (all_receipts seats)
+  standing = all_stand (setting_in checked) log seats logged.each
 
-  order_logged : (order : List ReceiptOf) → AreInOrder seats order → length order ≡ length logged.log
-      → order ≡ logged.log
+  pub order_logged : (order : List ReceiptOf) → AreInOrder seats order → length order ≡ length log
+      → order ≡ log
   unfolding standing
   order_logged order ordered count =
-      order_is [] order logged.log count ordered.numbered
-      (All-permutation (StandsIn logged.log) (all_receipts seats) order ordered.all standing)
+      order_is [] order log count ordered.numbered
+      (All-permutation (StandsIn log) (all_receipts seats) order ordered.all standing)
 
   rising : All (IsRisingSeat (length (book_log book))) seats
   unfolding long
   rising place other low =
       let seat : SeatOf = get_or seats place other in
       subst (λ (n : ℕ). IsRisingSeat n seat) (sym long)
-      (subst (λ (list : List ℕ). RiseTo (length logged.log) 0 list) (numbers_are seat.notes)
+      (subst (λ (list : List ℕ). RiseTo (length log) 0 list) (numbers_are seat.notes)
       (logged.each place other low).rising)
 
   -- what each seat has seen is a beginning of them
@@ -272,13 +275,13 @@ module _ (checked : CheckedOf) (book : Book) (seats : List SeatOf) (named : book
   unfolding long standing
   apart sorted moved order =
       subst (λ (n : ℕ). RiseTo n 0 (numbers_of sorted)) (sym long)
-      (sorted_rise (length logged.log) 0 sorted order
+      (sorted_rise (length log) 0 sorted order
       (λ n. let once = logged.once n in let all = drawn_all n seats in
       let same = times_sorted n (all_receipts seats) sorted moved in omega (arith, once, all, same))
-      (λ place other low. stands_within logged.log (get_or sorted place other)
-      (All-permutation (StandsIn logged.log) (all_receipts seats) sorted moved standing place other low)))
+      (λ place other low. stands_within log (get_or sorted place other)
+      (All-permutation (StandsIn log) (all_receipts seats) sorted moved standing place other low)))
 
-  module _ (order : List ReceiptOf) (same : order ≡ logged.log) where
+  module _ (order : List ReceiptOf) (same : order ≡ log) where
     accepted : AreAccepted (book_setting book) no_rows (transactions_of order)
     accepted = subst (λ (list : List ReceiptOf). AreAccepted (book_setting book) no_rows (transactions_of list))
         (sym same) logged.stands.accepted
@@ -301,20 +304,20 @@ module _ (checked : CheckedOf) (book : Book) (seats : List SeatOf) (named : book
     right : All (IsRight (book_setting book) (transactions_of order)) (all_readings seats)
     right place other low =
         let reading : Reading = get_or (all_readings seats) place other in
-        let read : IsReadIn (setting_in checked) logged.log reading =
-        all_read (setting_in checked) logged.log seats logged.each place other low in
-        let told : transactions_of logged.log ≡ transactions_of read.earlier ++ transactions_of read.later =
+        let read : IsReadIn (setting_in checked) log reading =
+        all_read (setting_in checked) log seats logged.each place other low in
+        let told : transactions_of log ≡ transactions_of read.earlier ++ transactions_of read.later =
         ap transactions_of read.log_is ∙ transactions_append read.earlier read.later in
         let count : length (transactions_of read.earlier) ≡ reading.number =
         length_transactions read.earlier ∙ sym read.number_is in
-        let begins : transactions_of read.earlier ≡ take reading.number (transactions_of logged.log) =
+        let begins : transactions_of read.earlier ≡ take reading.number (transactions_of log) =
         sym (take-append_seam (transactions_of read.earlier) (transactions_of read.later))
         ∙ ap (λ n. take n (transactions_of read.earlier ++ transactions_of read.later)) count
         ∙ ap (take reading.number) (sym told) in
         let all = ap length read.log_is in let both = length-append read.earlier read.later in
-        let number = read.number_is in let whole = length_transactions logged.log in
+        let number = read.number_is in let whole = length_transactions log in
         subst (λ (list : List ReceiptOf). IsRight (book_setting book) (transactions_of list) reading) (sym same)
-        (subst (λ (one : CheckedOf). IsRight (setting_in one) (transactions_of logged.log) reading) (sym named)
+        (subst (λ (one : CheckedOf). IsRight (setting_in one) (transactions_of log) reading) (sym named)
         (record {
           within = omega (arith, all, both, number, whole);
           answer_is = read.answer_is
@@ -347,27 +350,31 @@ module _ (checked : CheckedOf) (book : Book) (seats : List SeatOf) (named : book
           counted setting tables number (receipt ∷ order) =
               ap suc (counted setting (left_by setting tables (transaction_of receipt)) (number + 1) order)
 
-  can_come : (served : List Served) (error : CloseError) → IsCloseCause book seats served error → CanCome error
+  can_come : (acquired : ℕ) (served : List ServedOf) (error : CloseError)
+      → IsCloseCause book acquired seats served error → CanCome error
   unfolding not_missing not_wrong
-  can_come served f.CountDiffers cause = tt
-  can_come served f.ReceiptMissing cause = not_missing cause.0 cause.1
-  can_come served f.ReadingWrong cause = not_wrong cause
-  can_come served f.TakenDiffers cause = tt
-  can_come served f.StartLate cause = tt
-  can_come served f.OutOfMemory cause = tt
+  can_come acquired served f.CountDiffers cause = tt
+  can_come acquired served f.ReceiptMissing cause = not_missing cause.0 cause.1
+  can_come acquired served f.ReadingWrong cause = not_wrong cause
+  can_come acquired served f.TakenDiffers cause = tt
+  can_come acquired served f.ConnectionMissing cause = tt
+  can_come acquired served f.StartLate cause = tt
+  can_come acquired served f.OutOfMemory cause = tt
 
-pub comes_as_named : (checked : CheckedOf) (book : Book) (seats seen : List SeatOf) (served : List Served)
-    (error : CloseError) → book_checked book ≡ checked → seen ≡ seats → IsLogOfSeats checked seats book
-    → IsCloseCause book seen served error → CanCome error
-comes_as_named checked book seats seen served error named same logged cause =
-    can_come checked book seen named (subst (λ (list : List SeatOf). IsLogOfSeats checked list book) (sym same) logged)
-    served error cause
+module _ (checked : CheckedOf) (acquired : ℕ) (book : Book) (seats seen : List SeatOf) (served told : List ServedOf)
+    (named : book_checked book ≡ checked) (same : seen ≡ seats) (alike : told ≡ served)
+    (witnessed : AreWitnessed checked acquired seats served book) where
+  pub comes_as_named : (error : CloseError) → IsCloseCause book acquired seen told error → CanCome error
+  comes_as_named error cause =
+      can_come checked witnessed.closing.log book seen named
+      (subst (λ (list : List SeatOf). IsLogOfSeats checked witnessed.closing.log list book) (sym same)
+      witnessed.logged) acquired told error cause
 
-pub logged_as_named : (checked : CheckedOf) (book : Book) (seats seen : List SeatOf) → book_checked book ≡ checked
-    → seen ≡ seats → IsLogOfSeats checked seats book → IsLogOfSeats (book_checked book) seen book
-logged_as_named checked book seats seen named same logged =
-    subst (λ (one : CheckedOf). IsLogOfSeats one seen book) (sym named)
-    (subst (λ (list : List SeatOf). IsLogOfSeats checked list book) (sym same) logged)
+  pub witnessed_as_named : AreWitnessed (book_checked book) acquired seen told book
+  witnessed_as_named =
+      subst (λ (one : CheckedOf). AreWitnessed one acquired seen told book) (sym named)
+      (subst (λ (list : List SeatOf). AreWitnessed checked acquired list told book) (sym same)
+      (subst (λ (list : List ServedOf). AreWitnessed checked acquired seats list book) (sym alike) witnessed))
 
 pub memory_comes : {A : Type 0} (result : Result A CloseError)
     → IsErrAnd result (λ error. error ≡ f.OutOfMemory) → IfErr result CanCome

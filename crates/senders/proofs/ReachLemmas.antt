@@ -1,190 +1,167 @@
--- How far the commits of a slot are accounted for, connection by connection in the order of their starts.
-use Rattle.std.proofs.Common.{◌≡◌, ℕ, ◌+◌, ◌<◌, ◌≤◌, max, true, List, length, map, get_or, take, take_all, sym, ap, subst, ◌∙◌, arith, ltb}
+-- How far the commits of a slot are accounted for, connection by connection in the order of their numbers.
+use Rattle.std.proofs.Common.{◌≡◌, ◌≢◌, ℕ, ◌+◌, ◌<◌, ◌≤◌, max, true, false, List, [], ◌∷◌, ◌++◌, inl, inr, length, map, get_or, take, drop, refl, sym, ap, subst, ◌∙◌, arith, ltb, length-append, append_assoc}
 use Rattle.std.proofs.lemmas.Bool.{ltb-true, ltb-false}
-use Rattle.std.proofs.lemmas.List.{get_or-map, get_or-take, length-map, length-take}
-use Rattle.std.proofs.lemmas.List.Elements.{All-contains, All-get_or, All-map, All-more, All-weaker}
-use Rattle.std.proofs.lemmas.List.Sorted.{Contains-permutation, IsPermutation-sym}
-use Rattle.std.specs.List.Sorted.{IsNonDecreasingBy, IsPermutation}
-use Rattle.std.specs.Prelude.{All, Contains, Some}
+use Rattle.std.proofs.lemmas.List.{get_or-map, length-map, take-append-drop}
+use Rattle.std.proofs.lemmas.List.Elements.{All-contains, All-nil, All-push, All-weaker, Contains-append_left, Contains-push, Contains-push_cases}
+use Rattle.std.proofs.lemmas.List.FromFn.{length-range_with_len}
+use Rattle.std.specs.List.{range_with_len}
+use Rattle.std.specs.Prelude.{All, Contains, Some, slice_get}
 use Rattle.filter_tree.proofs.Tests.{by_test}
-use Rattle.senders.specs.Reached.{Accounts, Takes, Requests, IsAccounted, IsReached, AreReached}
-use Rattle.senders.specs.TakenCommits.{taken_from, taken_of}
-use Rattle.senders.specs.declared.served.Served.{Served}
+use Rattle.senders.specs.Reached.{Accounts, Takes, Requests, IsAccounted, IsReached, numbers_in}
+use Rattle.senders.specs.Results.{ServedOf, taken_from}
+use Rattle.senders.specs.TakenCommits.{taken_to}
+use Rattle.senders.proofs.ReplayLemmas.{get_here, take_one_more}
 
--- how many commits the log has up to the last one that was taken for it
-abbrev pub taken_to : Served → ℕ
-taken_to one = taken_from one + length (taken_of one)
+-- ---- numbers
 
--- if its client requested a position of the slot, no more commits are before it
-abbrev pub RequestsTo : ℕ → ℕ → Served → Type 0
-RequestsTo slot reach one = one.slot ≡ Some slot → one.is_requested ≡ true → taken_from one ≤ reach
+-- What is to be shown holds just where the numbers that are left count up from this one.
+pub record CountsUp (whole : Type 0) (next : ℕ) (numbers : List ℕ) : Type 0 where
+  pub from : numbers ≡ range_with_len next (length numbers) → whole
+  pub to : whole → numbers ≡ range_with_len next (length numbers)
 
--- if it is of the slot, it took no commit after these
-abbrev pub TakesTo : ℕ → ℕ → Served → Type 0
-TakesTo slot reach one = one.slot ≡ Some slot → taken_to one ≤ reach
+pub long_count : (all : List ServedOf) (count : ℕ) → numbers_in all ≡ range_with_len 1 count → length all ≡ count
+long_count all count same =
+    sym (length-map all (λ (one : ServedOf). one.number)) ∙ ap length same ∙ length-range_with_len 1 count
 
 -- ---- the connections, as they are shown
 
-module _ {R : Type 0} (show : R → Served) (rows : List R) (slot : ℕ) where
-  abbrev shown : List Served
-  shown = map show rows
+module _ {R : Type 0} (show : R → ServedOf) (rows : List R) (place : ℕ) (row : R) (inside : place < length rows)
+    (is : row ≡ get_or rows place row) where
+  there : slice_get (map show rows) place ≡ Some (show row)
+  there = get_here (map show rows) place (show row) (omega (arith, inside, length-map rows show))
+      (sym (get_or-map show rows place row (show row) inside ∙ ap show (sym is)))
 
-  -- the first commits, this number of them, are accounted for, and no client of the connections before this place
-  -- requested a later position
-  pub record AreRequestedTo (reach place : ℕ) : Type 0 where
-    pub accounted : (count : ℕ) → count < reach → IsAccounted shown slot count
-    pub most : All (λ row. RequestsTo slot reach (show row)) (take place rows)
+  -- those before it, and it
+  pub one_more : take (place + 1) (map show rows) ≡ take place (map show rows) ++ show row ∷ []
+  unfolding there
+  one_more = take_one_more (map show rows) place (show row) there
 
-  -- nor did any, and for those before this place no later commit was taken
-  pub record AreReachedTo (reach place : ℕ) : Type 0 where
-    pub accounted : (count : ℕ) → count < reach → IsAccounted shown slot count
-    pub most : All (λ row. RequestsTo slot reach (show row)) rows
-    pub passed : All (λ row. TakesTo slot reach (show row)) (take place rows)
+  -- and those after it
+  pub around : map show rows ≡ take place (map show rows) ++ show row ∷ drop (place + 1) (map show rows)
+  unfolding one_more
+  around = sym (take-append-drop (place + 1) (map show rows))
+      ∙ ap (λ (list : List ServedOf). list ++ drop (place + 1) (map show rows)) one_more
+      ∙ append_assoc (take place (map show rows)) (show row ∷ []) (drop (place + 1) (map show rows))
 
-  pub none_requested : AreRequestedTo 0 0
-  none_requested = record {
-    accounted = λ count below. absurd (omega (arith, below));
-    most = λ place other below. absurd (omega (arith, below));
+-- ---- a connection after others
+
+-- a place in a list is its last one, or is before that
+data IsPlaced (order earlier : List ServedOf) (last one : ServedOf) : Type 0 where
+  IsLast : earlier ≡ order → one ≡ last → IsPlaced order earlier last one
+  IsWithin : (rest : List ServedOf) → order ≡ earlier ++ one ∷ rest → IsPlaced order earlier last one
+
+placed_after : (first : ServedOf) (order earlier : List ServedOf) (last one : ServedOf)
+    → IsPlaced order earlier last one → IsPlaced (first ∷ order) (first ∷ earlier) last one
+placed_after first order earlier last one (IsLast same is) = IsLast (ap (λ list. first ∷ list) same) is
+placed_after first order earlier last one (IsWithin rest same) = IsWithin rest (ap (λ list. first ∷ list) same)
+
+placed : (order earlier later : List ServedOf) (last one : ServedOf) → order ++ last ∷ [] ≡ earlier ++ one ∷ later
+    → IsPlaced order earlier last one
+placed [] [] later last one same = IsLast refl cc
+placed [] (other ∷ earlier) later last one same =
+    absurd (omega (arith, ap length same, length-append earlier (one ∷ later)))
+placed (first ∷ order) [] later last one same = IsWithin order cc
+placed (first ∷ order) (other ∷ earlier) later last one same =
+    let is : first ≡ other = cc in
+    let rest : order ++ last ∷ [] ≡ earlier ++ one ∷ later = cc in
+    subst (λ (it : ServedOf). IsPlaced (first ∷ order) (it ∷ earlier) last one) is
+    (placed_after first order earlier last one (placed order earlier later last one rest))
+
+-- if it is of the slot, it took no commit after these
+abbrev pub TakesTo : ℕ → ℕ → ServedOf → Type 0
+TakesTo slot reach one = one.slot ≡ Some slot → taken_to one ≤ reach
+
+-- Of these connections, in their order: the first commits, this number of them, are accounted for, no later one was
+-- taken, and the starts are reached.
+pub record AreReachedTo (slot reach : ℕ) (order : List ServedOf) : Type 0 where
+  pub accounted : (count : ℕ) → count < reach → IsAccounted order slot count
+  pub passed : All (TakesTo slot reach) order
+  pub so_far : IsReached order slot
+
+pub none_reached : (slot : ℕ) → AreReachedTo slot 0 []
+none_reached slot = record {
+  accounted = λ count below. absurd (omega (arith, below));
+  passed = All-nil (TakesTo slot 0);
+  so_far = λ earlier one later same of count below.
+      absurd (omega (arith, ap length same, length-append earlier (one ∷ later)));
+}
+
+module _ (slot reach : ℕ) (order : List ServedOf) (one : ServedOf) (before : AreReachedTo slot reach order) where
+  -- what was accounted for still is
+  still : (count : ℕ) → IsAccounted order slot count → IsAccounted (order ++ one ∷ []) slot count
+  still count by = record
+      { one = by.one; among = Contains-append_left order (one ∷ []) by.one by.among; by = by.by }
+
+  of_it : (count : ℕ) → Accounts slot count one → IsAccounted (order ++ one ∷ []) slot count
+  of_it count accounts = record { one = one; among = Contains-push order one; by = accounts }
+
+  -- so are the starts, if its own is
+  starts_more : (one.slot ≡ Some slot → (count : ℕ) → count < taken_from one
+      → IsAccounted (order ++ one ∷ []) slot count) → IsReached (order ++ one ∷ []) slot
+  starts_more own earlier other later same = at (placed order earlier later one other same)
+    where
+      at : IsPlaced order earlier one other → other.slot ≡ Some slot → (count : ℕ) → count < taken_from other
+          → IsAccounted (earlier ++ other ∷ []) slot count
+      at (IsLast first is) of count below =
+          subst (λ (list : List ServedOf). IsAccounted list slot count)
+          (λ i. sym first i ++ sym is i ∷ [])
+          (own (ap (λ (it : ServedOf). it.slot) (sym is) ∙ of) count
+          (subst (λ (it : ServedOf). count < taken_from it) is below))
+      at (IsWithin rest first) of count below = before.so_far earlier other rest first of count below
+
+  pub of_another : one.slot ≢ Some slot → AreReachedTo slot reach (order ++ one ∷ [])
+  unfolding still starts_more
+  of_another other = record {
+    accounted = λ count below. still count (before.accounted count below);
+    passed = All-push (TakesTo slot reach) order one before.passed (λ its. absurd (other its));
+    so_far = starts_more (λ its. absurd (other its));
   }
 
-  pub none_reached : (reach : ℕ) → ((count : ℕ) → count < reach → IsAccounted shown slot count)
-      → All (RequestsTo slot reach) shown → AreReachedTo reach 0
-  none_reached reach accounted most = record {
-    accounted = accounted;
-    most = λ place other below.
-        subst (RequestsTo slot reach) (get_or-map show rows place other (show other) below)
-        (most place (show other) (omega (arith, below, length-map rows show)));
-    passed = λ place other below. absurd (omega (arith, below));
-  }
+  module _ (of : one.slot ≡ Some slot) where
+    module _ (in_time : reach < taken_from one → one.is_requested ≡ true) where
+      before_start : (count : ℕ) → count < taken_from one → IsAccounted (order ++ one ∷ []) slot count
+      unfolding still of_it
+      before_start count below = by_test (ltb count reach)
+          (λ less. still count (before.accounted count (ltb-true count reach less)))
+          (λ more. let least = ltb-false count reach more in
+          of_it count (Requests of (in_time (omega (arith, least, below))) below))
 
-  -- a connection
-  module _ (place : ℕ) (row : R) (inside : place < length rows) (is : row ≡ get_or rows place row) where
-    at : get_or shown place (show row) ≡ show row
-    at = get_or-map show rows place row (show row) inside ∙ ap show (sym is)
-
-    there : Contains shown (show row)
-    there = (place, omega (arith, inside, length-map rows show), at)
-
-    -- its client requested the position after this number of commits, or none
-    pub requested : (reach number : ℕ) → ((count : ℕ) → count < number → Accounts slot count (show row))
-        → RequestsTo slot number (show row) → AreRequestedTo reach place
-        → AreRequestedTo (max reach number) (place + 1)
-    requested reach number accounts early before =
-        let next : ℕ = max reach number in
-        record {
-          accounted = λ count below. by_test (ltb count reach)
-              (λ less. before.accounted count (ltb-true count reach less))
-              (λ more. let least = ltb-false count reach more in
-              record { one = show row; among = there; by = accounts count (omega (arith, least, below)) });
-          most = All-more (λ other. RequestsTo slot next (show other)) rows place row inside
-              (All-weaker (λ other. RequestsTo slot reach (show other)) (λ other. RequestsTo slot next (show other))
-              (λ other low its so. let upto = low its so in omega (arith, upto)) (take place rows) before.most)
-              (subst (λ other. RequestsTo slot next (show other)) is
-              (λ its so. let upto = early its so in omega (arith, upto)));
-        }
-
-    pub of_another : (reach : ℕ) → TakesTo slot reach (show row) → AreReachedTo reach place
-        → AreReachedTo reach (place + 1)
-    of_another reach early before = record {
-      accounted = before.accounted;
-      most = before.most;
-      passed = All-more (λ other. TakesTo slot reach (show other)) rows place row inside before.passed
-          (subst (λ other. TakesTo slot reach (show other)) is early);
-    }
-
-    pub reached : (reach : ℕ) → (show row).slot ≡ Some slot → taken_from (show row) ≤ reach
-        → AreReachedTo reach place → AreReachedTo (max reach (taken_to (show row))) (place + 1)
-    reached reach of early before =
-        let next : ℕ = max reach (taken_to (show row)) in
-        record {
-          accounted = λ count below. by_test (ltb count reach)
-              (λ less. before.accounted count (ltb-true count reach less))
-              (λ more. let least = ltb-false count reach more in
-              record {
-                one = show row;
-                among = there;
-                by = Takes of (omega (arith, least, early)) (omega (arith, least, below));
-              });
-          most = All-weaker (λ other. RequestsTo slot reach (show other)) (λ other. RequestsTo slot next (show other))
-              (λ other low its so. let upto = low its so in omega (arith, upto)) rows before.most;
-          passed = All-more (λ other. TakesTo slot next (show other)) rows place row inside
-              (All-weaker (λ other. TakesTo slot reach (show other)) (λ other. TakesTo slot next (show other))
-              (λ other low its. let upto = low its in omega (arith, upto)) (take place rows) before.passed)
-              (subst (λ other. TakesTo slot next (show other)) is (λ its. omega arith));
-        }
+      pub of_this : AreReachedTo slot (max reach (taken_to one)) (order ++ one ∷ [])
+      unfolding still of_it starts_more before_start
+      of_this =
+          let next : ℕ = max reach (taken_to one) in
+          record {
+            accounted = λ count below. by_test (ltb count (taken_from one))
+                (λ less. before_start count (ltb-true count (taken_from one) less))
+                (λ more. let least = ltb-false count (taken_from one) more in
+                by_test (ltb count reach)
+                (λ less. still count (before.accounted count (ltb-true count reach less)))
+                (λ late. let most = ltb-false count reach late in
+                of_it count (Takes of least (omega (arith, most, below)))));
+            passed = All-push (TakesTo slot next) order one
+                (All-weaker (TakesTo slot reach) (TakesTo slot next)
+                (λ other low its. let upto = low its in omega (arith, upto)) order before.passed)
+                (λ its. omega arith);
+            so_far = starts_more (λ its. before_start);
+          }
 
     -- it starts after the reach, so that the next commit is not accounted for
-    module _ (reach : ℕ) (sorted : IsNonDecreasingBy taken_from shown) (before : AreReachedTo reach place)
-        (late : reach < taken_from (show row)) where
-      not_accounted : (other : Served) → Contains shown other → Accounts slot reach other → ⊥
-      not_accounted other among (Requests of says after) =
-          let early = All-contains (RequestsTo slot reach) shown other
-          (All-map (RequestsTo slot reach) show rows before.most) among of says in
-          omega (arith, early, after)
-      not_accounted other (j, below, found) (Takes of low high) =
-          let inner : j < length rows = omega (arith, below, length-map rows show) in
-          let its : show (get_or rows j row) ≡ other =
-          sym (get_or-map show rows j row other inner) ∙ found in
-          by_test (ltb j place)
-          (λ less.
-          let first : j < place = ltb-true j place less in
-          let long : j < length (take place rows) = omega (arith, first, inside, length-take place rows) in
-          let passed : TakesTo slot reach other =
-          subst (TakesTo slot reach) (ap show (get_or-take place rows j row first) ∙ its)
-          (All-get_or (λ (one : R). TakesTo slot reach (show one)) (take place rows) j row long before.passed) in
-          let upto = passed of in
-          omega (arith, upto, high))
-          (λ more.
-          let order = sorted place j other (ltb-false j place more) below in
-          let own : taken_from (get_or shown place other) ≡ taken_from (show row) =
-          ap taken_from (get_or-map show rows place row other inside ∙ ap show (sym is)) in
-          let last : taken_from (get_or shown j other) ≡ taken_from other = ap taken_from found in
-          omega (arith, order, own, last, low, late))
+    module _ (late : reach < taken_from one) (not_requested : one.is_requested ≡ false) where
+      not_by_it : Accounts slot reach one → ⊥
+      not_by_it (Takes its low high) = absurd (omega (arith, low, late))
+      not_by_it (Requests its requested below) = absurd cc
 
-      pub not_reached : (show row).slot ≡ Some slot → IsReached shown slot → ⊥
-      not_reached of all =
-          let by : IsAccounted shown slot reach = all (show row) there of reach late in
-          not_accounted by.one by.among by.by
+      not_before : (other : ServedOf) → Contains order other → Accounts slot reach other → ⊥
+      not_before other among (Takes its low high) =
+          let upto = All-contains (TakesTo slot reach) order other before.passed among its in omega (arith, upto, high)
+      not_before other among (Requests its requested below) =
+          let upto = All-contains (TakesTo slot reach) order other before.passed among its in omega (arith, upto, below)
 
-  pub all_requested : (reach place : ℕ) → length rows ≤ place → AreRequestedTo reach place
-      → All (RequestsTo slot reach) shown
-  all_requested reach place past before =
-      All-map (RequestsTo slot reach) show rows
-      (subst (λ (list : List R). All (λ row. RequestsTo slot reach (show row)) list) (take_all place rows past)
-      before.most)
-
-  pub all_reached : (reach place : ℕ) → length rows ≤ place → AreReachedTo reach place → IsReached shown slot
-  all_reached reach place past before one among of count below =
-      let passed : All (TakesTo slot reach) shown =
-      All-map (TakesTo slot reach) show rows
-      (subst (λ (list : List R). All (λ row. TakesTo slot reach (show row)) list) (take_all place rows past)
-      before.passed) in
-      let upto = All-contains (TakesTo slot reach) shown one passed among of in
-      before.accounted count (omega (arith, upto, below))
-
--- ---- in another order
-
-reached_in_order : (all sorted : List Served) (slot : ℕ) → IsPermutation all sorted → IsReached sorted slot
-    → IsReached all slot
-reached_in_order all sorted slot moved reached one among of count below =
-    let by : IsAccounted sorted slot count =
-    reached one (Contains-permutation all sorted one moved among) of count below in
-    record {
-      one = by.one;
-      among = Contains-permutation sorted all by.one (IsPermutation-sym all sorted moved) by.among;
-      by = by.by;
-    }
-
--- each slot before this one is reached
-abbrev pub AreReachedIn : List Served → ℕ → Type 0
-AreReachedIn all slots = (slot : ℕ) → slot < slots → IsReached all slot
-
-module _ (all sorted seen : List Served) (moved : IsPermutation all sorted) (same : seen ≡ sorted) where
-  pub reached_here : (slot : ℕ) → IsReached seen slot → IsReached all slot
-  reached_here slot reached =
-      reached_in_order all sorted slot moved (subst (λ (list : List Served). IsReached list slot) same reached)
-
-  pub not_reached_here : (slots slot : ℕ) → slot < slots → (IsReached seen slot → ⊥) → AreReached slots all → ⊥
-  not_reached_here slots slot below not reached =
-      not (subst (λ (list : List Served). IsReached list slot) (sym same)
-      (reached_in_order sorted all slot (IsPermutation-sym all sorted moved) (reached slot below)))
+      pub not_reached : (all later : List ServedOf) → all ≡ order ++ one ∷ later → ¬ IsReached all slot
+      unfolding not_by_it not_before
+      not_reached all later same reached =
+          let by : IsAccounted (order ++ one ∷ []) slot reach = reached order one later same of reach late in
+          elim (Contains-push_cases order one by.one by.among) [
+            | inl among ↦ not_before by.one among by.by
+            | inr is ↦ not_by_it (subst (Accounts slot reach) (sym is) by.by)
+          ]

@@ -1,37 +1,40 @@
 -- What came of a connection on which no stream was started.
 use Rattle.std.proofs.Common.{◌≡◌, ℕ, List, [], map, refl, sym, ◌∙◌, ap, subst}
-use Rattle.std.specs.Prelude.{Bool, Option, None}
+use Rattle.std.specs.Prelude.{Bool, false, Option, None}
 use Rattle.std.specs.Arc.{arc_value}
 use Rattle.std.specs.Io.KnownBytes.{Appends}
 use Rattle.std.proofs.KnownBytes.{Appends-nil, Consumes-nil}
 use Rattle.shard_checker.specs.CheckedView.{CheckedOf}
 use Rattle.copy_both.specs.Ears.{ear_refusal}
-use Rattle.copy_both.specs.HeardFrames.{frames_in}
+use Rattle.copy_both.specs.HeardFrames.{BooksOf, frames_in}
 use Rattle.copy_both.specs.declared.link_fault.LinkFault.{LinkFault}
 use Rattle.copy_both.specs.declared.link_fault.LinkFault.TheVariants as fault
 use Rattle.senders.specs.declared.end.End.{End}
 use Rattle.senders.specs.declared.end.End.TheVariants as end
-use Rattle.senders.specs.declared.served.Served.{Served}
+use Rattle.senders.specs.declared.outcome.Outcome.{Outcome}
 use Rattle.senders.specs.Listening.{EndsAt, EndsFor, HasListened}
 use Rattle.senders.specs.Refusing.{AnswersAs, cause_by}
-use Rattle.senders.specs.Serving.{IsUnstartedAnswer, IsEndCause, IsServed, IsServedFor, IsWritten, commits_of, started_of}
+use Rattle.senders.specs.Results.{books_seen, commits_of, served_of}
+use Rattle.senders.specs.Serving.{IsUnstartedAnswer, IsEndCause, IsServed, IsServedFor, IsWritten, started_of}
 use Rattle.senders.specs.declared.listener_end.ListenerEnd.{ListenerEnd}
 use Rattle.senders.specs.declared.listener_end.ListenerEnd.TheVariants as listener_end
 use Rattle.senders.specs.declared.listener.Listener.{Listener}
+use Rattle.publisher_desk.specs.Viewers.{SeesMore, ViewerOf, new_viewer}
+use Rattle.senders.proofs.SeenLogs.{books_more, ends_still}
 use Rattle.senders.proofs.ServingLemmas.{heard_cause}
 
 -- what was written for this end
-record Answered (checked : CheckedOf) (bytes : List ℕ) (before after : Option (List ℕ)) (failed : Bool) (why : End) :
-    Type 0 where
+record Answered (checked : CheckedOf) (known : BooksOf) (bytes : List ℕ) (before after : Option (List ℕ))
+    (failed : Bool) (why : End) : Type 0 where
   written : List ℕ
   put : Appends before after written
-  answer : IsUnstartedAnswer checked (frames_in bytes) written failed why
+  answer : IsUnstartedAnswer checked known (frames_in bytes) written failed why
 
-module _ (checked : CheckedOf) (bytes : List ℕ) (source_failed source_ended : Bool) (before after : Option (List ℕ))
-    (failed : Bool) (response : List ℕ) where
-  by_fault : (f : LinkFault) → EndsFor checked bytes None response source_failed source_ended (listener_end.Fault f)
+module _ (checked : CheckedOf) (known : BooksOf) (bytes : List ℕ) (source_failed source_ended : Bool)
+    (before after : Option (List ℕ)) (failed : Bool) (response : List ℕ) where
+  by_fault : (f : LinkFault) → EndsFor checked known bytes None response source_failed source_ended (listener_end.Fault f)
       → AnswersAs (listener_end.Fault f) before after failed response
-      → Answered checked bytes before after failed (end.Link f)
+      → Answered checked known bytes before after failed (end.Link f)
   by_fault (fault.BadStart state) ends answers = record {
     written = answers.written;
     put = answers.put;
@@ -49,69 +52,88 @@ module _ (checked : CheckedOf) (bytes : List ℕ) (source_failed source_ended : 
   by_fault fault.Closed ends answers = record { written = []; put = answers; answer = refl }
   by_fault fault.OutOfMemory ends answers = record { written = []; put = answers; answer = refl }
 
-  answered : (why : ListenerEnd) → EndsFor checked bytes None response source_failed source_ended why
-      → AnswersAs why before after failed response → Answered checked bytes before after failed (cause_by why)
+  answered : (why : ListenerEnd) → EndsFor checked known bytes None response source_failed source_ended why
+      → AnswersAs why before after failed response → Answered checked known bytes before after failed (cause_by why)
   answered listener_end.SourceFailed ends answers = record { written = []; put = answers; answer = refl }
   answered listener_end.SourceEnded ends answers = record { written = []; put = answers; answer = refl }
   answered (listener_end.Frame kind) ends answers = record { written = []; put = answers; answer = refl }
   answered (listener_end.Fault f) ends answers = by_fault f ends answers
 
 module _ (checked : CheckedOf) (bytes : List ℕ) (source_failed source_ended : Bool) (before after : Option (List ℕ))
-    (failed : Bool) (served : Served) (no_slot : served.slot ≡ None)
-    (no_start : served.start ≡ None) (none : served.taken.items ≡ []) where
-  unstarted : Answered checked bytes before after failed served.end
-      → IsEndCause checked bytes None source_failed source_ended failed served.end
-      → IsServedFor checked bytes source_failed source_ended before after failed served
+    (failed : Bool) (outcome : Outcome) (is_requested : Bool) (number : ℕ) (viewer : ViewerOf)
+    (no_slot : outcome.slot ≡ None) (no_start : outcome.start ≡ None) (none : outcome.taken.items ≡ []) where
+  abbrev known : BooksOf
+  known = books_seen viewer
+
+  unstarted : Answered checked known bytes before after failed outcome.end
+      → IsEndCause checked known bytes None source_failed source_ended failed outcome.end
+      → IsServedFor checked bytes source_failed source_ended before after failed
+      (served_of outcome is_requested number viewer)
   unstarted answer cause = record {
     written = answer.written;
     put = answer.put;
-    is = subst (λ (o : Option ℕ). IsWritten checked (frames_in bytes) o served.start (commits_of served)
-        answer.written failed served.end) (sym no_slot)
-        (subst (λ (o : Option ℕ). IsWritten checked (frames_in bytes) None o (commits_of served) answer.written failed
-        served.end) (sym no_start)
+    is = subst (λ (o : Option ℕ). IsWritten checked known (frames_in bytes) o outcome.start (commits_of outcome)
+        answer.written failed outcome.end) (sym no_slot)
+        (subst (λ (o : Option ℕ). IsWritten checked known (frames_in bytes) None o (commits_of outcome) answer.written
+        failed outcome.end) (sym no_start)
         (record { none = ap (map (λ commit. arc_value commit)) none; answer = answer.answer }));
-    cause = subst (λ (o : Option ℕ). IsEndCause checked bytes (started_of o served.start) source_failed source_ended
-        failed served.end) (sym no_slot) cause;
+    cause = subst (λ (o : Option ℕ). IsEndCause checked known bytes (started_of o outcome.start) source_failed
+        source_ended failed outcome.end) (sym no_slot) cause;
     requested = λ slot start some begins says. cc;
     left = λ slot some sound client. cc;
   }
 
 -- the connection ended before a stream was started
-pub served_refused : (checked : CheckedOf) (left now_left : Option (List ℕ)) (source_failed source_ended : Bool)
-    (before after : Option (List ℕ)) (failed : Bool) (old new : Listener) (served : Served) (why : ListenerEnd)
-    → HasListened checked [] old → EndsAt checked left now_left source_failed source_ended old new None why
+pub served_refused : (checked : CheckedOf) (was now last : ViewerOf) (left now_left : Option (List ℕ))
+    (source_failed source_ended : Bool)
+    (before after : Option (List ℕ)) (failed : Bool) (old new : Listener) (outcome : Outcome) (is_requested : Bool)
+    (number : ℕ) (why : ListenerEnd) → SeesMore now last
+    → HasListened checked was [] old → EndsAt checked was now left now_left source_failed source_ended old new None why
     → AnswersAs why before after failed (ear_refusal new.ear)
-    → served.slot ≡ None → served.start ≡ None → served.taken.items ≡ [] → served.end ≡ cause_by why
-    → IsServed checked left now_left source_failed source_ended before after failed served
-served_refused checked left now_left source_failed source_ended before after failed old new served why fresh at
-    answers no_slot no_start none same =
+    → outcome.slot ≡ None → outcome.start ≡ None → outcome.taken.items ≡ [] → outcome.end ≡ cause_by why
+    → IsServed checked left now_left source_failed source_ended before after failed
+    (served_of outcome is_requested number last)
+served_refused checked was now last left now_left source_failed source_ended before after failed old new outcome
+    is_requested number why sees fresh at answers no_slot no_start none same =
     let bytes : List ℕ = at.hears.more in
+    let known = books_seen last in
     let all = at.hears.ends [] fresh in
-    let ends : EndsFor checked bytes None (ear_refusal new.ear) source_failed source_ended why =
-    subst (λ (o : Option (ℕ × ℕ)). EndsFor checked bytes o (ear_refusal new.ear) source_failed source_ended why)
-    at.started_is all.ends in
+    let ends : EndsFor checked known bytes None (ear_refusal new.ear) source_failed source_ended why =
+    ends_still checked (books_seen now) known (books_more now last sees) bytes None (ear_refusal new.ear) source_failed
+    source_ended why
+    (subst (λ (o : Option (ℕ × ℕ)). EndsFor checked (books_seen now) bytes o (ear_refusal new.ear) source_failed
+    source_ended why) at.started_is all.ends) in
     record {
       bytes = bytes;
       read = at.hears.read;
-      served_for = unstarted checked bytes source_failed source_ended before after failed served no_slot no_start none
-          (subst (Answered checked bytes before after failed) (sym same)
-          (answered checked bytes source_failed source_ended before after failed (ear_refusal new.ear) why ends
+      served_for = unstarted checked bytes source_failed source_ended before after failed outcome is_requested number last
+          no_slot no_start none
+          (subst (Answered checked known bytes before after failed) (sym same)
+          (answered checked known bytes source_failed source_ended before after failed (ear_refusal new.ear) why ends
           answers))
-          (subst (IsEndCause checked bytes None source_failed source_ended failed) (sym same)
-          (heard_cause checked bytes None (ear_refusal new.ear) source_failed source_ended failed why ends));
+          (subst (IsEndCause checked known bytes None source_failed source_ended failed) (sym same)
+          (heard_cause checked known bytes None (ear_refusal new.ear) source_failed source_ended failed why ends));
     }
 
 -- no byte was read
 pub served_nothing : (checked : CheckedOf) (left : Option (List ℕ)) (source_failed source_ended : Bool)
-    (before : Option (List ℕ)) (failed : Bool) (served : Served)
-    → served.slot ≡ None → served.start ≡ None → served.taken.items ≡ [] → served.end ≡ end.Link fault.OutOfMemory
-    → IsServed checked left left source_failed source_ended before before failed served
-served_nothing checked left source_failed source_ended before failed served no_slot no_start none same = record {
+    (before : Option (List ℕ)) (failed : Bool) (outcome : Outcome)
+    → outcome.slot ≡ None → outcome.start ≡ None → outcome.taken.items ≡ [] → outcome.end ≡ end.Link fault.OutOfMemory
+    → IsServed checked left left source_failed source_ended before before failed (served_of outcome false 0 new_viewer)
+served_nothing checked left source_failed source_ended before failed outcome no_slot no_start none same = record {
   bytes = [];
   read = Consumes-nil left;
-  served_for = unstarted checked [] source_failed source_ended before before failed served no_slot no_start none
-      (subst (Answered checked [] before before failed) (sym same)
+  served_for = unstarted checked [] source_failed source_ended before before failed outcome false 0 new_viewer no_slot
+      no_start none
+      (subst (Answered checked (books_seen new_viewer) [] before before failed) (sym same)
       (record { written = []; put = Appends-nil before; answer = refl }))
-      (subst (IsEndCause checked [] None source_failed source_ended failed) (sym same)
-      (record { transactions = []; accepted = tt; sent = 0; from = tt; has = tt; reaches = λ ahead. tt }));
+      (subst (IsEndCause checked (books_seen new_viewer) [] None source_failed source_ended failed) (sym same) (record {
+        transactions = [];
+        begins = record { later = []; log_is = refl };
+        accepted = tt;
+        sent = 0;
+        from = tt;
+        has = tt;
+        reaches = λ ahead. tt;
+      }));
 }

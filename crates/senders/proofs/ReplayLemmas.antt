@@ -177,6 +177,7 @@ module _ (book old : Book) (order : List ReceiptOf) (receipt : ReceiptOf) (place
   missing_one long f.ReceiptMissing missing = unlike_one long missing
   missing_one long f.ReadingWrong missing = missing
   missing_one long f.TakenDiffers missing = missing
+  missing_one long f.ConnectionMissing missing = missing
   missing_one long f.StartLate missing = missing
   missing_one long f.OutOfMemory missing = tt
 

@@ -3,20 +3,28 @@ use Rattle.std.proofs.Common.{◌≡◌, ℕ, List, [], ◌++◌, refl, sym, ◌
 use Rattle.std.proofs.lemmas.Bool.Decides.{nat_tests}
 use Rattle.std.specs.Prelude.{◌==◌, Bool, true, false, Option, Some, None}
 use Rattle.std.proofs.KnownBytes.{Consumes-trans}
+use Rattle.std.specs.Io.KnownBytes.{Consumes}
 use Rattle.shard_checker.specs.CheckedView.{CheckedOf}
 use Rattle.copy_both.specs.Ears.{ear_refusal, ear_started}
 use Rattle.copy_frames.specs.Contents.{copy_done}
-use Rattle.copy_both.specs.HeardFrames.{AsksFor, AsksIfStarted, HasEnd, Requests, frames_in}
+use Rattle.copy_frames.specs.declared.frame.Frame.{Frame}
+use Rattle.copy_both.specs.HeardFrames.{AsksFor, AsksIfStarted, BooksOf, HasEnd, Requests, frames_in}
 use Rattle.copy_both.specs.Hearing.{first_sent}
+use Rattle.copy_both.specs.VoiceLaws.{Follow}
 use Rattle.copy_both.specs.declared.link_fault.LinkFault.TheVariants as fault
+use Rattle.tables_log.specs.Lsn.{commits_before}
+use Rattle.publisher_desk.specs.SlotSights.{hold}
+use Rattle.publisher_desk.specs.Viewers.{SeesMore, ViewerOf, new_viewer}
 use Rattle.senders.specs.declared.end.End.{End}
 use Rattle.senders.specs.declared.end.End.TheVariants as end
-use Rattle.senders.specs.declared.served.Served.{Served}
+use Rattle.senders.specs.declared.outcome.Outcome.{Outcome}
 use Rattle.senders.specs.Hearing.{HoldsFault}
-use Rattle.senders.specs.Listening.{EndsAt, EndsFor, EndsOf, HasListened, HearsAll, StartsOn}
+use Rattle.senders.specs.Listening.{EndsAt, EndsFor, EndsOf, HasListened, HearsAll, HoldsStream, IsHolding, StartsOn}
 use Rattle.senders.specs.Refusing.{cause_by}
-use Rattle.senders.specs.Running.{Heard, IsEndOf, Memory, RunsOn, Streams, Whole, Writing}
-use Rattle.senders.specs.Serving.{IsEndCause, IsEnded, IsAfterStream, HasClientLeft, IsServed, IsServedFor, IsStream, IsTail, IsWritten, commits_of, started_of}
+use Rattle.senders.specs.Running.{Heard, IsEndOf, Memory, Streams, Whole, Writing}
+use Rattle.senders.specs.Serving.{IsEndCause, IsEnded, IsAfterStream, HasClientLeft, IsServed, IsServedFor, IsStream, IsTail, IsWritten, started_of}
+use Rattle.senders.specs.Results.{ServedOf, acquisition, books_seen, commits_of, served_of}
+use Rattle.senders.specs.Sending.{TakesLogged}
 use Rattle.senders.specs.Serving as serving
 use Rattle.senders.specs.Speaking.{IsSaid}
 use Rattle.senders.specs.Speaking as speaking
@@ -24,14 +32,16 @@ use Rattle.senders.specs.declared.listener_end.ListenerEnd.{ListenerEnd}
 use Rattle.senders.specs.declared.listener_end.ListenerEnd.TheVariants as listener_end
 use Rattle.senders.specs.declared.listener.Listener.{Listener}
 use Rattle.senders.proofs.HearingLemmas.{has_asked}
+use Rattle.senders.proofs.SeenLogs.{asks_still, books_more, ends_still}
 
 -- ---- causes
 
-memory_cause : (checked : CheckedOf) (bytes : List ℕ) (slot start : ℕ)
-    → HoldsFault checked bytes (Some (slot, start)) fault.OutOfMemory
-memory_cause checked bytes slot start =
+memory_cause : (checked : CheckedOf) (known : BooksOf) (bytes : List ℕ) (slot start : ℕ)
+    → HoldsFault checked known bytes (Some (slot, start)) fault.OutOfMemory
+memory_cause checked known bytes slot start =
     record {
       transactions = [];
+      begins = record { later = known.log; log_is = refl };
       accepted = tt;
       sent = first_sent start;
       from = omega arith;
@@ -39,51 +49,55 @@ memory_cause checked bytes slot start =
       reaches = λ ahead. absurd (let no_status : fault.OutOfMemory ≡ fault.StatusAhead = ahead in cc);
     }
 
-pub heard_cause : (checked : CheckedOf) (bytes : List ℕ) (started : Option (ℕ × ℕ)) (response : List ℕ)
+pub heard_cause : (checked : CheckedOf) (known : BooksOf) (bytes : List ℕ) (started : Option (ℕ × ℕ)) (response : List ℕ)
     (source_failed source_ended sink_failed : Bool) (why : ListenerEnd)
-    → EndsFor checked bytes started response source_failed source_ended why
-    → IsEndCause checked bytes started source_failed source_ended sink_failed (cause_by why)
-heard_cause checked bytes started response source_failed source_ended sink_failed listener_end.SourceFailed ends = ends
-heard_cause checked bytes started response source_failed source_ended sink_failed listener_end.SourceEnded ends = inl ends
-heard_cause checked bytes started response source_failed source_ended sink_failed (listener_end.Frame kind) ends =
+    → EndsFor checked known bytes started response source_failed source_ended why
+    → IsEndCause checked known bytes started source_failed source_ended sink_failed (cause_by why)
+heard_cause checked known bytes started response source_failed source_ended sink_failed listener_end.SourceFailed ends = ends
+heard_cause checked known bytes started response source_failed source_ended sink_failed listener_end.SourceEnded ends = inl ends
+heard_cause checked known bytes started response source_failed source_ended sink_failed (listener_end.Frame kind) ends =
     inr (record { kind = kind; has = ends })
-heard_cause checked bytes started response source_failed source_ended sink_failed (listener_end.Fault fault) ends = ends.holds
+heard_cause checked known bytes started response source_failed source_ended sink_failed (listener_end.Fault fault) ends = ends.holds
 
 -- ---- a stream
 
 -- what the bytes say of it, and of why its listener ended
-record Knows (checked : CheckedOf) (bytes : List ℕ) (slot start : ℕ) (source_failed source_ended : Bool)
+record Knows (checked : CheckedOf) (known : BooksOf) (bytes : List ℕ) (slot start : ℕ) (source_failed source_ended : Bool)
     (why : Option ListenerEnd) (is_requested : Bool) : Type 0 where
-  asks : AsksFor checked (frames_in bytes) slot start
+  asks : AsksFor checked known (frames_in bytes) slot start
   requested : is_requested ≡ true → Requests (frames_in bytes) slot start
   response : List ℕ
   ends : (ending : ListenerEnd) → why ≡ Some ending
-      → EndsFor checked bytes (Some (slot, start)) response source_failed source_ended ending
+      → EndsFor checked known bytes (Some (slot, start)) response source_failed source_ended ending
 
-is_last : (checked : CheckedOf) (bytes : List ℕ) (slot start : ℕ) (source_failed source_ended : Bool)
+is_last : (checked : CheckedOf) (known : BooksOf) (bytes : List ℕ) (slot start : ℕ) (source_failed source_ended : Bool)
     (why : Option ListenerEnd) (is_requested : Bool) (last : List ℕ)
-    → Knows checked bytes slot start source_failed source_ended why is_requested → IsSaid why last
+    → Knows checked known bytes slot start source_failed source_ended why is_requested → IsSaid why last
     → IsAfterStream (frames_in bytes) last
-is_last checked bytes slot start source_failed source_ended why is_requested last knows (speaking.Nothing none) =
+is_last checked known bytes slot start source_failed source_ended why is_requested last knows (speaking.Nothing none) =
     serving.Nothing none
-is_last checked bytes slot start source_failed source_ended why is_requested last knows (speaking.Done done is) =
+is_last checked known bytes slot start source_failed source_ended why is_requested last knows (speaking.Done done is) =
     serving.Done done (knows.ends (listener_end.Frame 99) is)
 
-module _ (checked : CheckedOf) (bytes : List ℕ) (slot start : ℕ) (source_failed source_ended : Bool)
-    (before after : Option (List ℕ)) (sink_failed : Bool) (why : Option ListenerEnd) (served : Served)
-    (knows : Knows checked bytes slot start source_failed source_ended why served.is_requested) where
+module _ (checked : CheckedOf) (known : BooksOf) (bytes : List ℕ) (slot start : ℕ) (source_failed source_ended : Bool)
+    (before after : Option (List ℕ)) (sink_failed : Bool) (why : Option ListenerEnd) (outcome : Outcome)
+    (is_requested : Bool) (number : ℕ) (viewer : ViewerOf) (known_is : known ≡ books_seen viewer)
+    (knows : Knows checked known bytes slot start source_failed source_ended why is_requested) where
+  abbrev served : ServedOf
+  served = served_of outcome is_requested number viewer
+
   stream_cause : (is : End) → IsEndOf why sink_failed is
-      → IsEndCause checked bytes (Some (slot, start)) source_failed source_ended sink_failed is
+      → IsEndCause checked known bytes (Some (slot, start)) source_failed source_ended sink_failed is
   stream_cause is (Writing same failed) =
-      subst (IsEndCause checked bytes (Some (slot, start)) source_failed source_ended sink_failed) (sym same) failed
+      subst (IsEndCause checked known bytes (Some (slot, start)) source_failed source_ended sink_failed) (sym same) failed
   stream_cause is (Memory same) =
-      subst (IsEndCause checked bytes (Some (slot, start)) source_failed source_ended sink_failed) (sym same)
-      (memory_cause checked bytes slot start)
+      subst (IsEndCause checked known bytes (Some (slot, start)) source_failed source_ended sink_failed) (sym same)
+      (memory_cause checked known bytes slot start)
   stream_cause is (Whole same) =
-      subst (IsEndCause checked bytes (Some (slot, start)) source_failed source_ended sink_failed) (sym same) tt
+      subst (IsEndCause checked known bytes (Some (slot, start)) source_failed source_ended sink_failed) (sym same) tt
   stream_cause is (Heard ending some same) =
-      subst (IsEndCause checked bytes (Some (slot, start)) source_failed source_ended sink_failed) (sym same)
-      (heard_cause checked bytes (Some (slot, start)) knows.response source_failed source_ended sink_failed ending
+      subst (IsEndCause checked known bytes (Some (slot, start)) source_failed source_ended sink_failed) (sym same)
+      (heard_cause checked known bytes (Some (slot, start)) knows.response source_failed source_ended sink_failed ending
       (knows.ends ending some))
 
   -- a frame of this kind ended it
@@ -114,10 +128,10 @@ module _ (checked : CheckedOf) (bytes : List ℕ) (slot start : ℕ) (source_fai
   left_by written is client answered (Heard ended some same) =
       left_by_ending written ended some (sym same ∙ client) answered
 
-  stream_served : Streams checked slot start before after sink_failed why served
+  stream_served : Streams checked slot start before after sink_failed why outcome
       → IsServedFor checked bytes source_failed source_ended before after sink_failed served
   stream_served streams =
-      let is : IsStream checked (frames_in bytes) slot start (commits_of served) streams.written sink_failed
+      let is : IsStream checked known (frames_in bytes) slot start (commits_of outcome) streams.written sink_failed
       served.end = record {
         asks = knows.asks;
         follow = streams.follow;
@@ -126,7 +140,7 @@ module _ (checked : CheckedOf) (bytes : List ℕ) (slot start : ℕ) (source_fai
         takes = streams.takes;
         rest = streams.rest;
         last = streams.last;
-        last_is = is_last checked bytes slot start source_failed source_ended why served.is_requested streams.last knows
+        last_is = is_last checked known bytes slot start source_failed source_ended why is_requested streams.last knows
             streams.said;
         bytes = streams.bytes;
         all = streams.all;
@@ -135,15 +149,19 @@ module _ (checked : CheckedOf) (bytes : List ℕ) (slot start : ℕ) (source_fai
       record {
         written = streams.written;
         put = streams.put;
-        is = subst (λ (o : Option ℕ). IsWritten checked (frames_in bytes) o served.start (commits_of served)
+        is = subst (λ (k : BooksOf). IsWritten checked k (frames_in bytes) served.slot served.start (commits_of outcome)
+            streams.written sink_failed served.end) known_is
+            (subst (λ (o : Option ℕ). IsWritten checked known (frames_in bytes) o served.start (commits_of outcome)
             streams.written sink_failed served.end) (sym streams.slot_is)
-            (subst (λ (o : Option ℕ). IsWritten checked (frames_in bytes) (Some slot) o (commits_of served)
-            streams.written sink_failed served.end) (sym streams.start_is) is);
-        cause = subst (λ (o : Option ℕ). IsEndCause checked bytes (started_of o served.start) source_failed source_ended
-            sink_failed served.end) (sym streams.slot_is)
-            (subst (λ (o : Option ℕ). IsEndCause checked bytes (started_of (Some slot) o) source_failed source_ended
+            (subst (λ (o : Option ℕ). IsWritten checked known (frames_in bytes) (Some slot) o (commits_of outcome)
+            streams.written sink_failed served.end) (sym streams.start_is) is));
+        cause = subst (λ (k : BooksOf). IsEndCause checked k bytes (started_of served.slot served.start) source_failed
+            source_ended sink_failed served.end) known_is
+            (subst (λ (o : Option ℕ). IsEndCause checked known bytes (started_of o served.start) source_failed
+            source_ended sink_failed served.end) (sym streams.slot_is)
+            (subst (λ (o : Option ℕ). IsEndCause checked known bytes (started_of (Some slot) o) source_failed source_ended
             sink_failed served.end) (sym streams.start_is)
-            (stream_cause served.end streams.ends));
+            (stream_cause served.end streams.ends)));
         requested = λ other at some begins says.
             let one : Some slot ≡ Some other = sym streams.slot_is ∙ some in
             let two : Some start ≡ Some at = sym streams.start_is ∙ begins in
@@ -157,121 +175,134 @@ module _ (checked : CheckedOf) (bytes : List ℕ) (slot start : ℕ) (source_fai
 
 -- ---- what was read of it
 
-asks_for : (checked : CheckedOf) (bytes : List ℕ) (started : Option (ℕ × ℕ)) (slot start : ℕ)
-    → AsksIfStarted checked (frames_in bytes) started → started ≡ Some (slot, start)
-    → AsksFor checked (frames_in bytes) slot start
-asks_for checked bytes started slot start asks is = subst (AsksIfStarted checked (frames_in bytes)) is asks
+asks_for : (checked : CheckedOf) (known : BooksOf) (bytes : List ℕ) (started : Option (ℕ × ℕ)) (slot start : ℕ)
+    → AsksIfStarted checked known (frames_in bytes) started → started ≡ Some (slot, start)
+    → AsksFor checked known (frames_in bytes) slot start
+asks_for checked known bytes started slot start asks is = subst (AsksIfStarted checked known (frames_in bytes)) is asks
 
-knows_end : (checked : CheckedOf) (bytes : List ℕ) (old new : Listener) (slot start : ℕ)
-    (source_failed source_ended : Bool) (why : ListenerEnd) → EndsOf checked bytes old new source_failed source_ended why
-    → ear_started new.ear ≡ Some (slot, start) → (is_requested : Bool) → is_requested ≡ new.is_requested
-    → Knows checked bytes slot start source_failed source_ended (Some why) is_requested
-knows_end checked bytes old new slot start source_failed source_ended why ends is is_requested said = record {
-  asks = asks_for checked bytes (ear_started new.ear) slot start ends.asks is;
-  requested = λ says. ends.requested slot start is (sym said ∙ says);
-  response = ear_refusal new.ear;
-  ends = λ ending some.
-      let same : why ≡ ending = cc in
-      subst (EndsFor checked bytes (Some (slot, start)) (ear_refusal new.ear) source_failed source_ended) same
-      (subst (λ (o : Option (ℕ × ℕ)). EndsFor checked bytes o (ear_refusal new.ear) source_failed source_ended why) is
-      ends.ends);
-}
+-- by what was seen when it ended, and then by what was seen in the end
+module _ (checked : CheckedOf) (now last : ViewerOf) (sees : SeesMore now last) (bytes : List ℕ) (slot start : ℕ)
+    (source_failed source_ended : Bool) where
+  asks_last : (started : Option (ℕ × ℕ)) → AsksIfStarted checked (books_seen now) (frames_in bytes) started
+      → started ≡ Some (slot, start) → AsksFor checked (books_seen last) (frames_in bytes) slot start
+  asks_last started asks is =
+      asks_still checked (books_seen now) (books_seen last) (books_more now last sees) (frames_in bytes) slot start
+      (subst (AsksIfStarted checked (books_seen now) (frames_in bytes)) is asks)
 
-knows_on : (checked : CheckedOf) (bytes : List ℕ) (listener : Listener) (slot start : ℕ)
-    (source_failed source_ended : Bool) → HasListened checked bytes listener
-    → ear_started listener.ear ≡ Some (slot, start) → (is_requested : Bool) → is_requested ≡ listener.is_requested
-    → Knows checked bytes slot start source_failed source_ended None is_requested
-knows_on checked bytes listener slot start source_failed source_ended has is is_requested said = record {
-  asks = asks_for checked bytes (ear_started listener.ear) slot start (has_asked checked bytes listener.ear has.heard)
-      is;
-  requested = λ says. has.requested slot start is (sym said ∙ says);
-  response = [];
-  ends = λ ending some. cc;
-}
+  knows_end : (old new : Listener) (why : ListenerEnd)
+      → EndsOf checked now bytes old new source_failed source_ended why
+      → ear_started new.ear ≡ Some (slot, start) → (is_requested : Bool) → is_requested ≡ new.is_requested
+      → Knows checked (books_seen last) bytes slot start source_failed source_ended (Some why) is_requested
+  knows_end old new why ends is is_requested said = record {
+    asks = asks_last (ear_started new.ear) ends.asks is;
+    requested = λ says. ends.requested slot start is (sym said ∙ says);
+    response = ear_refusal new.ear;
+    ends = λ ending some.
+        let same : why ≡ ending = cc in
+        subst (EndsFor checked (books_seen last) bytes (Some (slot, start)) (ear_refusal new.ear) source_failed
+        source_ended) same
+        (ends_still checked (books_seen now) (books_seen last) (books_more now last sees) bytes (Some (slot, start))
+        (ear_refusal new.ear) source_failed source_ended why
+        (subst (λ (o : Option (ℕ × ℕ)). EndsFor checked (books_seen now) bytes o (ear_refusal new.ear) source_failed
+        source_ended why) is ends.ends));
+  }
+
+  knows_on : (listener : Listener) → HasListened checked now bytes listener
+      → ear_started listener.ear ≡ Some (slot, start) → (is_requested : Bool) → is_requested ≡ listener.is_requested
+      → Knows checked (books_seen last) bytes slot start source_failed source_ended None is_requested
+  knows_on listener has is is_requested said = record {
+    asks = asks_last (ear_started listener.ear) (has_asked checked (books_seen now) bytes listener.ear has.heard) is;
+    requested = λ says. has.requested slot start is (sym said ∙ says);
+    response = [];
+    ends = λ ending some. cc;
+  }
 
 -- ---- the cases of a connection
 
--- whether its client requested the start is said of it at the end
-abbrev pub with_request : Bool → Served → Served
-with_request is_requested served = record served { is_requested = is_requested }
+-- what is known at the end of a stream: of its slot and its commits, and what the result will say
+pub record EndsStream (checked : CheckedOf) (now last : ViewerOf) (left now_left : Option (List ℕ))
+    (source_failed source_ended : Bool) (before after : Option (List ℕ)) (sink_failed : Bool) (new : Listener)
+    (outcome : Outcome) (is_requested : Bool) (number : ℕ) (sender : ViewerOf) : Type 0 where
+  pub slot : ℕ
+  pub start : ℕ
+  pub slot_is : outcome.slot ≡ Some slot
+  pub start_is : outcome.start ≡ Some start
+  pub follow : Follow (commits_before start) (commits_of outcome)
+  pub logged : TakesLogged checked new_viewer sender (commits_of outcome)
+  pub holding : now.held ≡ Some (hold (acquisition slot start new.is_requested) new.number)
+  pub frames : List Frame
+  pub asks : AsksFor checked (books_seen last) frames slot start
+  pub served : IsServed checked left now_left source_failed source_ended before after sink_failed
+      (served_of outcome is_requested number last)
 
-module _ (checked : CheckedOf) (slot start : ℕ) (before after : Option (List ℕ)) (failed : Bool)
-    (why : Option ListenerEnd) (is_requested : Bool) (served : Served) where
-  streams_so : Streams checked slot start before after failed why served
-      → Streams checked slot start before after failed why (with_request is_requested served)
-  streams_so streams = record {
+module _ (checked : CheckedOf) (was now last : ViewerOf) (sees : SeesMore now last) (left now_left : Option (List ℕ))
+    (source_failed source_ended : Bool)
+    (before after : Option (List ℕ)) (sink_failed : Bool) (old new : Listener)
+    (fresh : HasListened checked was [] old) (outcome : Outcome) (is_requested : Bool) (number : ℕ)
+    (said : is_requested ≡ new.is_requested) where
+  abbrev Result : ViewerOf → Type 0
+  Result sender = EndsStream checked now last left now_left source_failed source_ended before after sink_failed new outcome
+      is_requested number sender
+
+  holds_started : (started : ℕ × ℕ) → ear_started new.ear ≡ Some started → IsHolding now new
+      → now.held ≡ Some (hold (acquisition started.0 started.1 new.is_requested) new.number)
+  holds_started started is holding =
+      subst (λ (o : Option (ℕ × ℕ)). HoldsStream o new.is_requested new.number now.held) is holding
+
+  ends_stream : (sender : ViewerOf) (bytes : List ℕ) (started : ℕ × ℕ) (why : Option ListenerEnd)
+      → Consumes left now_left bytes → ear_started new.ear ≡ Some started → IsHolding now new
+      → Knows checked (books_seen last) bytes started.0 started.1 source_failed source_ended why is_requested
+      → Streams checked started.0 started.1 before after sink_failed why outcome
+      → TakesLogged checked new_viewer sender (commits_of outcome) → Result sender
+  ends_stream sender bytes started why read is holding knows streams logged = record {
+    slot = started.0;
+    start = started.1;
     slot_is = streams.slot_is;
     start_is = streams.start_is;
-    written = streams.written;
-    put = streams.put;
     follow = streams.follow;
-    moves = streams.moves;
-    clocks = streams.clocks;
-    takes = streams.takes;
-    rest = streams.rest;
-    last = streams.last;
-    said = streams.said;
-    bytes = streams.bytes;
-    all = streams.all;
-    whole = streams.whole;
-    answered = streams.answered;
-    ends = streams.ends;
+    logged = logged;
+    holding = holds_started started is holding;
+    frames = frames_in bytes;
+    asks = knows.asks;
+    served = record {
+      bytes = bytes;
+      read = read;
+      served_for = stream_served checked (books_seen last) bytes started.0 started.1 source_failed source_ended before
+          after sink_failed why outcome is_requested number last refl knows streams;
+    };
   }
 
-module _ (checked : CheckedOf) (left now_left : Option (List ℕ)) (source_failed source_ended : Bool)
-    (before after : Option (List ℕ)) (sink_failed : Bool) (old new : Listener)
-    (fresh : HasListened checked [] old) (one : Served) (is_requested : Bool)
-    (said : is_requested ≡ new.is_requested) where
-  abbrev served : Served
-  served = with_request is_requested one
+  pub by_listener : (sender between : ViewerOf) (middle_left : Option (List ℕ)) (middle : Listener) (started : ℕ × ℕ)
+      → StartsOn checked was between left middle_left old middle started
+      → (why : Option ListenerEnd)
+      → HearsAll checked between now middle_left now_left source_failed source_ended middle new why
+      → Streams checked started.0 started.1 before after sink_failed why outcome
+      → TakesLogged checked new_viewer sender (commits_of outcome) → Result sender
+  by_listener sender between middle_left middle started on None more streams logged =
+      let first = on.hears.heard [] fresh in
+      let then = more.heard on.hears.more first.has in
+      let bytes = on.hears.more ++ more.more in
+      let is = then.stays started on.started_is in
+      ends_stream sender bytes started None
+      (Consumes-trans left middle_left now_left on.hears.more more.more on.hears.read more.read) is then.has.holding
+      (knows_on checked now last sees bytes started.0 started.1 source_failed source_ended new then.has is is_requested
+      said) streams logged
+  by_listener sender between middle_left middle started on (Some why) more streams logged =
+      let first = on.hears.heard [] fresh in
+      let then = more.ends on.hears.more first.has in
+      let bytes = on.hears.more ++ more.more in
+      let is = then.stays started on.started_is in
+      ends_stream sender bytes started (Some why)
+      (Consumes-trans left middle_left now_left on.hears.more more.more on.hears.read more.read) is then.holding
+      (knows_end checked now last sees bytes started.0 started.1 source_failed source_ended middle new why then is
+      is_requested said) streams logged
 
-  pub served_ended : (started : ℕ × ℕ) (why : ListenerEnd)
-      → EndsAt checked left now_left source_failed source_ended old new (Some started) why
-      → Streams checked started.0 started.1 before after sink_failed (Some why) one
-      → IsServed checked left now_left source_failed source_ended before after sink_failed served
-  served_ended started why at streams = record {
-    bytes = at.hears.more;
-    read = at.hears.read;
-    served_for = stream_served checked at.hears.more started.0 started.1 source_failed source_ended before after
-        sink_failed (Some why) served
-        (knows_end checked at.hears.more old new started.0 started.1 source_failed source_ended why
-        (at.hears.ends [] fresh) at.started_is is_requested said)
-        (streams_so checked started.0 started.1 before after sink_failed (Some why) is_requested one streams);
-  }
-
-  -- it was heard on by this listener
-  module _ (middle_left : Option (List ℕ)) (middle : Listener) (started : ℕ × ℕ)
-      (on : StartsOn checked left middle_left old middle started) where
-    by_listener : (why : Option ListenerEnd)
-        → HearsAll checked middle_left now_left source_failed source_ended middle new why
-        → Streams checked started.0 started.1 before after sink_failed why one
-        → IsServed checked left now_left source_failed source_ended before after sink_failed served
-    by_listener None more streams =
-        let first = on.hears.heard [] fresh in
-        let then = more.heard on.hears.more first.has in
-        record {
-          bytes = on.hears.more ++ more.more;
-          read = Consumes-trans left middle_left now_left on.hears.more more.more on.hears.read more.read;
-          served_for = stream_served checked (on.hears.more ++ more.more) started.0 started.1 source_failed
-              source_ended before after sink_failed None served
-              (knows_on checked (on.hears.more ++ more.more) new started.0 started.1 source_failed source_ended
-              then.has (then.stays started on.started_is) is_requested said)
-              (streams_so checked started.0 started.1 before after sink_failed None is_requested one streams);
-        }
-    by_listener (Some why) last streams =
-        let first = on.hears.heard [] fresh in
-        let then = last.ends on.hears.more first.has in
-        record {
-          bytes = on.hears.more ++ last.more;
-          read = Consumes-trans left middle_left now_left on.hears.more last.more on.hears.read last.read;
-          served_for = stream_served checked (on.hears.more ++ last.more) started.0 started.1 source_failed
-              source_ended before after sink_failed (Some why) served
-              (knows_end checked (on.hears.more ++ last.more) middle new started.0 started.1 source_failed
-              source_ended why then (then.stays started on.started_is) is_requested said)
-              (streams_so checked started.0 started.1 before after sink_failed (Some why) is_requested one streams);
-        }
-
-    pub served_started : RunsOn checked started.0 started.1 middle_left now_left source_failed source_ended before
-        after sink_failed middle new one
-        → IsServed checked left now_left source_failed source_ended before after sink_failed served
-    served_started runs = by_listener runs.why runs.hears runs.streams
+  pub at_once : (sender : ViewerOf) (started : ℕ × ℕ) (why : ListenerEnd)
+      → EndsAt checked was now left now_left source_failed source_ended old new (Some started) why
+      → Streams checked started.0 started.1 before after sink_failed (Some why) outcome
+      → TakesLogged checked new_viewer sender (commits_of outcome) → Result sender
+  at_once sender started why at streams logged =
+      let ends = at.hears.ends [] fresh in
+      ends_stream sender at.hears.more started (Some why) at.hears.read at.started_is ends.holding
+      (knows_end checked now last sees at.hears.more started.0 started.1 source_failed source_ended old new why ends
+      at.started_is is_requested said) streams logged

@@ -18,14 +18,14 @@ use Rattle.copy_both.specs.declared.link_fault.LinkFault.TheVariants as fault
 use Rattle.copy_both.specs.declared.voice.Voice.{Voice}
 use Rattle.senders.specs.declared.end.End.{End}
 use Rattle.senders.specs.declared.end.End.TheVariants as end
-use Rattle.senders.specs.declared.served.Served.{Served}
+use Rattle.senders.specs.declared.outcome.Outcome.{Outcome}
 use Rattle.std.proofs.lemmas.List.Elements.{All-nil}
 use Rattle.stream_laws.specs.LayoutRoom.{IsClocked}
 use Rattle.senders.specs.Causes.{chosen, chosen_by, end_by, goes_first, is_refused, unopened_by}
 use Rattle.senders.specs.Refusing.{cause_by}
 use Rattle.senders.specs.Running.{Concludes, IsEndOf, IsWithout, Memory, Writing, Whole, Heard, Streams}
 use Rattle.senders.specs.Sending.{Breaks, Follows, GoesOn, Spells, StopsAs, started_telling}
-use Rattle.senders.specs.Serving.{commits_of}
+use Rattle.senders.specs.Results.{commits_of}
 use Rattle.senders.specs.Speaking.{Answers, Closes, FailsToOpen, IsClosing, Nothing, Opens, Refused, SaysLast, SaysNothing, WritesPart}
 use Rattle.senders.specs.declared.listener_end.ListenerEnd.{ListenerEnd}
 use Rattle.senders.specs.declared.listener_end.ListenerEnd.TheVariants as listener_end
@@ -82,7 +82,7 @@ module _ (checked : CheckedOf) (slot start : ℕ) where
 
   module _ (before opened sent last : Option (List ℕ)) (put : Appends before opened copy_both_response)
       (taken : List CommitOf) (voice : Voice) (why : Option ListenerEnd) (was_failed failed : Bool)
-      (served : Served) (slot_is : served.slot ≡ Some slot) (start_is : served.start ≡ Some start)
+      (served : Outcome) (slot_is : served.slot ≡ Some slot) (start_is : served.start ≡ Some start)
       (taken_is : commits_of served ≡ taken) (ends : IsEndOf why failed served.end) where
     after_all : (was now : SenderEnd) → GoesOn opened sent taken voice (started_telling checked slot start copy_both_response)
         → Closes was now why sent last failed → (now ≡ sender_end.OutOfMemory → served.end ≡ end.Client → ⊥)
@@ -211,7 +211,7 @@ ends_by s is_first (Some why) failed is fails same =
 -- ---- all of a stream
 
 module _ (checked : CheckedOf) (slot start : ℕ) (before opened sent last : Option (List ℕ)) (voice : Voice)
-    (why : Option ListenerEnd) (was_failed failed : Bool) (served : Served) where
+    (why : Option ListenerEnd) (was_failed failed : Bool) (served : Outcome) where
   by_stop : (s now : SenderEnd) (is_first : Bool) (taken : List CommitOf) → Appends before opened copy_both_response
       → StopsAs s opened sent taken voice (started_telling checked slot start copy_both_response)
       → (s ≡ sender_end.WriteFault → was_failed ≡ true) → served.slot ≡ Some slot → served.start ≡ Some start
@@ -250,7 +250,7 @@ module _ (checked : CheckedOf) (slot start : ℕ) (before opened sent last : Opt
       (λ sound client. refused_end sender_end.OutOfMemory is_first why refl (sym is ∙ client))
 
 pub streams_to_its_end : (checked : CheckedOf) (slot start : ℕ) (before opened sent last : Option (List ℕ))
-    (voice old_voice : Voice) (why : Option ListenerEnd) (was_failed failed : Bool) (served : Served) (did : Sent)
+    (voice old_voice : Voice) (why : Option ListenerEnd) (was_failed failed : Bool) (served : Outcome) (did : Sent)
     → Opens checked slot start before opened old_voice
     → StopsAs did.stop opened sent (map (λ commit. arc_value commit) did.taken.items) voice
     (started_telling checked slot start copy_both_response) → (did.stop ≡ sender_end.WriteFault → was_failed ≡ true)
@@ -267,7 +267,7 @@ streams_to_its_end checked slot start before opened sent last voice old_voice wh
 -- ---- no commit was taken up
 
 module _ (checked : CheckedOf) (slot start : ℕ) (before last : Option (List ℕ)) (failed : Bool) (why : Option ListenerEnd)
-    (served : Served) where
+    (served : Outcome) where
   without : (written rest : List ℕ) → Appends before last written → written ++ rest ≡ copy_both_response
       → served.slot ≡ Some slot → served.start ≡ Some start → served.taken.items ≡ []
       → (failed ≡ false → served.end ≢ end.Link fault.OutOfMemory → rest ≡ []) → (served.end ≡ end.Finished → ⊥)

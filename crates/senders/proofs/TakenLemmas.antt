@@ -1,49 +1,49 @@
--- Commits that were taken, compared one after another.
-use Rattle.std.proofs.Common.{◌≡◌, ◌≢◌, ℕ, ◌+◌, List, length, subst, arith}
-use Rattle.std.proofs.lemmas.List.{length-map}
-use Rattle.std.specs.Prelude.{Bool, true, false, nat_eq, MatchBool}
-use Rattle.std.specs.Arc.{arc_value}
-use Rattle.copy_both.specs.VoiceLaws.{AreAt}
-use Rattle.senders.specs.declared.end.End.TheVariants.{Finished}
-use Rattle.senders.specs.declared.served.Served.{Served}
+-- What connections took is what the log of their publisher has, and their streams are in its events.
+use Rattle.std.proofs.Common.{◌≡◌, ℕ, ◌≤◌, List, length, get_or, refl, sym, subst, arith}
+use Rattle.std.proofs.lemmas.List.Elements.{All-weaker}
+use Rattle.std.specs.Prelude.{All}
+use Rattle.tables_log.specs.BookView.{book_checked, book_log}
 use Rattle.tables_log.specs.Commits.{CommitOf}
-use Rattle.tables_log.proofs.PlaceLemmas.{number_is, number_apart}
-use Rattle.senders.specs.TakenCommits.{taken_from, taken_of, IsTaken}
+use Rattle.tables_log.specs.declared.book.Book.{Book}
+use Rattle.copy_both.specs.VoiceLaws.{AreAt}
+use Rattle.publisher_desk.specs.Seats.{SeatOf}
+use Rattle.publisher_desk.specs.Viewers.{IsSeenIn}
+use Rattle.senders.specs.Closing.{HadStreamIn}
+use Rattle.senders.specs.Histories.{AreWitnessed}
+use Rattle.senders.specs.Results.{IsWitnessed, ServedOf, taken_from}
+use Rattle.senders.specs.TakenCommits.{IsTaken, IsWhole}
+use Rattle.senders.proofs.BeginningLemmas.{at_in_log, length_seen, stream_longer}
+use Rattle.senders.proofs.LoggedLemmas.{long}
 
--- what is to be shown holds just where the commits that are left are at their places
-pub record AtRest (whole : Type 0) (log : List CommitOf) (place : ℕ) (commits : List CommitOf) : Type 0 where
-  pub from : AreAt log place commits → whole
-  pub to : whole → AreAt log place commits
+-- one that stops early is not the log's
+pub not_taken : (log : List CommitOf) (served : List ServedOf) → ¬ All (IsWhole log) served
+    → ¬ All (IsTaken log) served
+not_taken log served short taken =
+    short (All-weaker (IsTaken log) (IsWhole log) (λ one its. its.whole) served taken)
 
--- ---- a connection
-
-module _ (log : List CommitOf) (served : Served) (count : ℕ) (first : count ≡ taken_from served) where
-  at_first : AreAt log count (taken_of served) → AreAt log (taken_from served) (taken_of served)
-  at_first at = subst (λ (n : ℕ). AreAt log n (taken_of served)) first at
-
-  pub taken_whole : AreAt log count (taken_of served) → count + length served.taken.items ≡ length log
-      → IsTaken log served
-  unfolding at_first
-  taken_whole at whole =
+module _ (book : Book) (acquired : ℕ) (seats : List SeatOf) (served : List ServedOf)
+    (told : AreWitnessed (book_checked book) acquired seats served book) where
+  pub taken_all : All (IsWhole (book_log book)) served → All (IsTaken (book_log book)) served
+  taken_all whole place other below =
+      let one : ServedOf = get_or served place other in
+      let its : IsWitnessed (book_checked book) one = told.witnessed place other below in
+      let seen : IsSeenIn told.closing one.viewer = told.seen place other below in
+      let few : length one.viewer.seen ≤ length told.closing.log =
+      length_seen told.closing.log one.viewer.seen seen.log in
+      let all : length (book_log book) ≡ length told.closing.log =
+      long (book_checked book) told.closing.log book seats refl told.logged in
       record {
-        within = omega (arith, whole, first);
-        at = at_first at;
-        whole = λ finished. let long =
-            length-map served.taken.items (λ commit. arc_value commit) in omega (arith, whole, first, long);
+        within = let start = its.within in omega (arith, start, few, all);
+        at = subst (λ (log : List CommitOf). AreAt log (taken_from one) one.taken) (sym told.logged.stands.log)
+            (at_in_log (book_checked book) told.closing.log one.viewer.seen (taken_from one) one.taken seen.log
+            its.taken);
+        whole = whole place other below;
       }
 
-  pub taken_short : served.end ≡ Finished → count + length served.taken.items ≢ length log → ¬ IsTaken log served
-  taken_short finished other taken =
-      other (let long = length-map served.taken.items (λ commit. arc_value commit) in let whole =
-      taken.whole finished in omega (arith, whole, first, long))
-
-pub whole_or_short : (log : List CommitOf) (served : Served) (count : ℕ) → count ≡ taken_from served
-    → AreAt log count (taken_of served) → served.end ≡ Finished
-    → (taken all : ℕ) → taken ≡ length served.taken.items → all ≡ length log → (same : Bool)
-    → nat_eq (count + taken) all ≡ same → MatchBool same (IsTaken log served) (¬ IsTaken log served)
-whole_or_short log served count first at finished taken all taken_is all_is true same =
-    let equal : count + taken ≡ all = number_is (count + taken) all same in
-    taken_whole log served count first at (omega (arith, equal, taken_is, all_is))
-whole_or_short log served count first at finished taken all taken_is all_is false apart =
-    let unequal : count + taken ≢ all = number_apart (count + taken) all apart in
-    taken_short log served count first finished (λ whole. unequal (omega (arith, whole, taken_is, all_is)))
+  pub had_all : All (HadStreamIn told.closing.events) served
+  had_all place other below =
+      let one : ServedOf = get_or served place other in
+      let its : IsWitnessed (book_checked book) one = told.witnessed place other below in
+      let seen : IsSeenIn told.closing one.viewer = told.seen place other below in
+      stream_longer one.slot one.start one.is_requested one.number told.closing.events one.viewer.events seen.slots
+      its.had

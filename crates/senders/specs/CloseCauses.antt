@@ -1,7 +1,6 @@
 -- Why a publisher cannot be closed: PostgreSQL 15, 3.4. Transactions, and 55.4. Streaming Replication Protocol.
 use Rattle.std.specs.Prelude.{◌≡◌, ◌≢◌, ℕ, ◌+◌, ◌<◌, List, All, length, slice_get, take, Some}
 use Rattle.std.specs.List.Sorted.{IsPermutation, IsNonDecreasingBy}
-use Rattle.senders.specs.declared.served.Served.{Served}
 use Rattle.shard_checker.specs.CheckedView.{CheckedOf}
 use Rattle.table_changes.specs.Records.{record_of}
 use Rattle.table_changes.specs.Setting.{Setting}
@@ -17,10 +16,11 @@ use Rattle.publisher_desk.specs.Seats.{SeatOf}
 use Rattle.publisher_desk.specs.Logged.{RiseTo}
 use Rattle.senders.specs.Gathering.{all_receipts, all_readings, numbers_of, IsRisingSeat}
 use Rattle.senders.specs.Histories.{AreInOrder, IsRight}
-use Rattle.senders.specs.Reached.{AreReached}
+use Rattle.senders.specs.Reached.{AreReached, IsOrder, LacksConnection}
+use Rattle.senders.specs.Results.{ServedOf}
 use Rattle.senders.specs.TakenCommits.{IsTaken}
 use Rattle.senders.specs.declared.close_error.CloseError.{CloseError}
-use Rattle.senders.specs.declared.close_error.CloseError.TheVariants.{CountDiffers, ReceiptMissing, ReadingWrong, TakenDiffers, StartLate, OutOfMemory}
+use Rattle.senders.specs.declared.close_error.CloseError.TheVariants.{CountDiffers, ReceiptMissing, ReadingWrong, TakenDiffers, ConnectionMissing, StartLate, OutOfMemory}
 
 -- ---- a receipt that the log does not have
 
@@ -49,6 +49,7 @@ pub data IsUnlike (setting : Setting) (log : List CommitOf) (order : List Receip
   IsRefusedThere : HasRefused setting order → IsUnlike setting log order
   IsOtherThere : HasOtherEntry setting log order → IsUnlike setting log order
 
+-- A receipt is missing.
 pub data IsMissing (setting : Setting) (log : List CommitOf) (seats : List SeatOf) : Type 0 where
   -- the numbers of a seat's receipts do not rise in its order, from 1 at least to the log's length at most
   IsFalling : ¬ All (IsRisingSeat (length log)) seats → IsMissing setting log seats
@@ -64,39 +65,55 @@ pub data IsMissing (setting : Setting) (log : List CommitOf) (seats : List SeatO
 -- ---- what holds where the receipts are those of the log
 
 -- The log of the book is that of the receipts.
-pub record IsToldBy (book : Book) (seats : List SeatOf) (order : List ReceiptOf) : Type 0 where
+pub record IsExplainedBy (book : Book) (seats : List SeatOf) (order : List ReceiptOf) : Type 0 where
   pub ordered : AreInOrder seats order
   pub accepted : AreAccepted (book_setting book) no_rows (transactions_of order)
   pub logged : book_log book ≡ entries_from (book_setting book) no_rows 1 (transactions_of order)
 
+-- A reading is wrong.
 pub record HasWrongReading (book : Book) (seats : List SeatOf) : Type 0 where
   pub order : List ReceiptOf
-  pub explained : IsToldBy book seats order
+  pub explained : IsExplainedBy book seats order
   pub wrong : ¬ All (IsRight (book_setting book) (transactions_of order)) (all_readings seats)
 
-pub record HasOtherTaken (book : Book) (seats : List SeatOf) (served : List Served) : Type 0 where
+-- What a connection took is not what the log has from its start on, or stops too early.
+pub record HasOtherTaken (book : Book) (seats : List SeatOf) (served : List ServedOf) : Type 0 where
   pub order : List ReceiptOf
-  pub explained : IsToldBy book seats order
+  pub explained : IsExplainedBy book seats order
   pub right : All (IsRight (book_setting book) (transactions_of order)) (all_readings seats)
   pub other : ¬ All (IsTaken (book_log book)) served
 
-pub record HasLateStart (book : Book) (seats : List SeatOf) (served : List Served) : Type 0 where
+-- So many streams acquired slots, and the connection of one of them is missing.
+pub record HasMissingConnection (book : Book) (acquired : ℕ) (seats : List SeatOf) (served : List ServedOf) : Type 0
+  where
+    pub order : List ReceiptOf
+    pub explained : IsExplainedBy book seats order
+    pub right : All (IsRight (book_setting book) (transactions_of order)) (all_readings seats)
+    pub taken : All (IsTaken (book_log book)) served
+    pub missing : LacksConnection acquired served
+
+-- None is missing, and a stream started after a commit that its slot was never sent.
+pub record HasLateStart (book : Book) (acquired : ℕ) (seats : List SeatOf) (served : List ServedOf) : Type 0 where
   pub order : List ReceiptOf
-  pub explained : IsToldBy book seats order
+  pub explained : IsExplainedBy book seats order
   pub right : All (IsRight (book_setting book) (transactions_of order)) (all_readings seats)
   pub taken : All (IsTaken (book_log book)) served
-  pub late : ¬ AreReached (length (book_checked book).catalog.subscriptions) served
+  pub starts : List ServedOf
+  pub ordered : IsOrder acquired served starts
+  pub late : ¬ AreReached (length (book_checked book).catalog.subscriptions) starts
 
 -- ---- refusals, each of which passes what comes before it
 
-abbrev pub IsCloseCause : Book → List SeatOf → List Served → CloseError → Type 0
-IsCloseCause book seats served CountDiffers = length (book_log book) ≢ length (all_receipts seats)
-IsCloseCause book seats served ReceiptMissing = (length (book_log book) ≡ length (all_receipts seats))
+-- `acquired` is how many streams acquired slots
+abbrev pub IsCloseCause : Book → ℕ → List SeatOf → List ServedOf → CloseError → Type 0
+IsCloseCause book acquired seats served CountDiffers = length (book_log book) ≢ length (all_receipts seats)
+IsCloseCause book acquired seats served ReceiptMissing = (length (book_log book) ≡ length (all_receipts seats))
     × IsMissing (book_setting book) (book_log book) seats
-IsCloseCause book seats served ReadingWrong = HasWrongReading book seats
-IsCloseCause book seats served TakenDiffers = HasOtherTaken book seats served
-IsCloseCause book seats served StartLate = HasLateStart book seats served
-IsCloseCause book seats served OutOfMemory = Unit {0}
+IsCloseCause book acquired seats served ReadingWrong = HasWrongReading book seats
+IsCloseCause book acquired seats served TakenDiffers = HasOtherTaken book seats served
+IsCloseCause book acquired seats served ConnectionMissing = HasMissingConnection book acquired seats served
+IsCloseCause book acquired seats served StartLate = HasLateStart book acquired seats served
+IsCloseCause book acquired seats served OutOfMemory = Unit {0}
 
 -- Of all seats, `left` were never handed out. Receipts are too few only if not all others are passed in.
 abbrev pub IsHeldBack : ℕ → ℕ → List SeatOf → CloseError → Type 0
@@ -104,6 +121,7 @@ IsHeldBack all left seats CountDiffers = left + length seats < all
 IsHeldBack all left seats ReceiptMissing = Unit {0}
 IsHeldBack all left seats ReadingWrong = Unit {0}
 IsHeldBack all left seats TakenDiffers = Unit {0}
+IsHeldBack all left seats ConnectionMissing = Unit {0}
 IsHeldBack all left seats StartLate = Unit {0}
 IsHeldBack all left seats OutOfMemory = Unit {0}
 
@@ -114,16 +132,18 @@ CanCome CountDiffers = Unit {0}
 CanCome ReceiptMissing = ⊥
 CanCome ReadingWrong = ⊥
 CanCome TakenDiffers = Unit {0}
+CanCome ConnectionMissing = Unit {0}
 CanCome StartLate = Unit {0}
 CanCome OutOfMemory = Unit {0}
 
 -- The publisher's book is of the checked catalog, takes this number of commits and is of some list of transactions.
--- It has no fewer commits than the seats have receipts, and exactly as many if no seat is held back. It is the cause
--- of the refusal.
-pub record RefusedClose (checked : CheckedOf) (limit all left : ℕ) (seats : List SeatOf) (served : List Served)
+-- It has no fewer commits than the seats have receipts, and exactly as many if no seat is held back. So many streams
+-- acquired slots. These are the cause of the refusal.
+pub record RefusedClose (checked : CheckedOf) (limit all left : ℕ) (seats : List SeatOf) (served : List ServedOf)
     (error : CloseError) : Type 0 where
   pub book : Book
+  pub acquired : ℕ
   pub is : IsBookOf checked limit book
   pub counted : IsCounted all left seats (length (book_log book))
-  pub cause : IsCloseCause book seats served error
+  pub cause : IsCloseCause book acquired seats served error
   pub held_back : IsHeldBack all left seats error

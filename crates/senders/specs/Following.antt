@@ -11,13 +11,13 @@ use Rattle.tables_log.specs.StandsFor.{Transaction, AreAccepted, StandsFor}
 use Rattle.tables_log.specs.declared.book.Book.{Book}
 use Rattle.copy_frames.specs.Contents.{copy_done}
 use Rattle.copy_frames.specs.declared.frame.Frame.{Frame}
-use Rattle.copy_both.specs.HeardFrames.{HasEnd}
+use Rattle.copy_both.specs.HeardFrames.{BooksOf, HasEnd}
 use Rattle.copy_both.specs.Streams.{Move}
 use Rattle.tables_log.specs.Lsn.{commits_before}
 use Rattle.copy_both.specs.VoiceLaws.{AreAt, takes_in}
 use Rattle.senders.specs.declared.end.End.{End}
 use Rattle.senders.specs.declared.end.End.TheVariants.{Finished}
-use Rattle.senders.specs.declared.served.Served.{Served}
+use Rattle.senders.specs.Results.{ServedOf}
 use Rattle.publisher_desk.specs.Seats.{SeatOf}
 use Rattle.senders.specs.Closing.{IsClosed}
 use Rattle.stream_laws.specs.Following.{Follows, items_from}
@@ -28,7 +28,7 @@ use Rattle.test_subscriber.specs.Copies.{sub_fault}
 use Rattle.test_subscriber.specs.Subscribers.{FeedStops, Feeds, Opens, sub_machine}
 use Rattle.test_subscriber.specs.declared.fault.SubFault.{SubFault}
 use Rattle.test_subscriber.specs.declared.subscriber.Subscriber.{Subscriber}
-use Rattle.senders.specs.Serving.{IsStream, commits_of}
+use Rattle.senders.specs.Serving.{IsStream}
 
 -- nothing, or the first bytes of the CopyDone that answers a client's
 pub data IsLastPart (frames : List Frame) (bytes : List ℕ) : Type 0 where
@@ -56,8 +56,8 @@ pub record IsFirstPart (checked : CheckedOf) (transactions : List Transaction) (
 abbrev pub ServedAreFirstParts : Type 0
 ServedAreFirstParts = (checked : CheckedOf) (book : Book) (transactions : List Transaction)
     → book_checked book ≡ checked → StandsFor book transactions
-    → (frames : List Frame) (slot start : ℕ) (taken : List CommitOf) (written : List ℕ) (failed : Bool) (why : End)
-    → IsStream checked frames slot start taken written failed why
+    → (known : BooksOf) (frames : List Frame) (slot start : ℕ) (taken : List CommitOf) (written : List ℕ)
+    (failed : Bool) (why : End) → IsStream checked known frames slot start taken written failed why
     → AreAt (book_log book) (commits_before start) taken
     → IsFirstPart checked transactions frames slot start taken written why
 
@@ -99,27 +99,28 @@ pub record AreExplained (checked : CheckedOf) (transactions : List Transaction) 
   pub timed : All IsTimedTransaction transactions
   pub few : length transactions ≤ 1000000000
 
-abbrev pub ClosedAreTold : Type 0
-ClosedAreTold = (checked : CheckedOf) (limit : ℕ) (seats : List SeatOf) (served : List Served) (book : Book)
+abbrev pub ClosedAreExplained : Type 0
+ClosedAreExplained = (checked : CheckedOf) (limit : ℕ) (seats : List SeatOf) (served : List ServedOf) (book : Book)
     (closed : IsClosed checked limit seats served book)
     → AreExplained checked closed.transactions
 
 -- So what was written to each connection, without a CopyDone at the end, is a prefix of the stream over the log of
 -- these transactions.
 abbrev pub ClosedTellTheLog : Type 0
-ClosedTellTheLog = (checked : CheckedOf) (limit : ℕ) (seats : List SeatOf) (served : List Served) (book : Book)
+ClosedTellTheLog = (checked : CheckedOf) (limit : ℕ) (seats : List SeatOf) (served : List ServedOf) (book : Book)
     (closed : IsClosed checked limit seats served book)
-    → (one : Served) → Contains served one → (frames : List Frame) (slot start : ℕ) → one.start ≡ Some start
-    → (written : List ℕ) (failed : Bool) → IsStream checked frames slot start (commits_of one) written failed one.end
-    → IsFirstPart checked closed.transactions frames slot start (commits_of one) written one.end
+    → (one : ServedOf) → Contains served one → (known : BooksOf) (frames : List Frame) (slot start : ℕ)
+    → one.start ≡ Some start → (written : List ℕ) (failed : Bool)
+    → IsStream checked known frames slot start one.taken written failed one.end
+    → IsFirstPart checked closed.transactions frames slot start one.taken written one.end
 
 -- And a subscriber that has its shard, opened this connection at its own position, and was fed any prefix of what was
 -- written has its shard of the tables as of the commits of these transactions that its position counts.
 abbrev pub ClosedAreFollowed : Type 0
-ClosedAreFollowed = (checked : Checked) (limit : ℕ) (seats : List SeatOf) (served : List Served) (book : Book)
+ClosedAreFollowed = (checked : Checked) (limit : ℕ) (seats : List SeatOf) (served : List ServedOf) (book : Book)
     (closed : IsClosed (checked_view checked) limit seats served book)
-    → (one : Served) (frames : List Frame) (slot start : ℕ) (written : List ℕ)
-    → (part : IsFirstPart (checked_view checked) closed.transactions frames slot start (commits_of one) written one.end)
+    → (one : ServedOf) (frames : List Frame) (slot start : ℕ) (written : List ℕ)
+    → (part : IsFirstPart (checked_view checked) closed.transactions frames slot start one.taken written one.end)
     → (old between new : Subscriber) → SubFollows (checked_view checked) closed.transactions slot old
     → (sub_machine old).position ≡ start → Opens old between
     → (bytes rest : List ℕ) → bytes ++ rest ≡ part.front → Feeds between bytes new

@@ -1,14 +1,20 @@
--- The one list of transactions that the receipts of all seats report, and what was read of it: PostgreSQL 15, 3.4.
--- Transactions, and Chapter 7 Queries.
-use Rattle.std.specs.Prelude.{◌≡◌, ◌≤◌, List, All, length, take}
+-- The one list of transactions that the receipts of all seats report, what was read of it, and what connections have
+-- seen of it: PostgreSQL 15, 3.4. Transactions, and Chapter 7 Queries.
+use Rattle.std.specs.Prelude.{◌≡◌, ◌≤◌, ℕ, List, All, length, take}
 use Rattle.std.specs.List.{range_with_len}
 use Rattle.std.specs.List.Sorted.{IsPermutation}
+use Rattle.shard_checker.specs.CheckedView.{CheckedOf}
 use Rattle.table_changes.specs.Setting.{Setting}
 use Rattle.tables_log.specs.StandsFor.{Transaction, after}
+use Rattle.tables_log.specs.declared.book.Book.{Book}
+use Rattle.publisher_desk.specs.Logged.{IsLogOfSeats}
 use Rattle.publisher_desk.specs.Receipts.{ReceiptOf}
 use Rattle.publisher_desk.specs.Seats.{SeatOf}
+use Rattle.publisher_desk.specs.SlotEvents.{acquisitions}
+use Rattle.publisher_desk.specs.Viewers.{ClosingOf, IsSeenIn}
 use Rattle.publisher_desk.specs.declared.note.Reading.{Reading}
 use Rattle.senders.specs.Gathering.{all_receipts, numbers_of, IsRisingSeat}
+use Rattle.senders.specs.Results.{IsWitnessed, ServedOf}
 
 -- These are the receipts of all seats in the order of their numbers, which are 1 to the number of receipts, each
 -- once. In each seat's order they increase.
@@ -21,3 +27,13 @@ pub record AreInOrder (seats : List SeatOf) (order : List ReceiptOf) : Type 0 wh
 pub record IsRight (setting : Setting) (transactions : List Transaction) (reading : Reading) : Type 0 where
   pub within : reading.number ≤ length transactions
   pub answer_is : reading.answer ≡ after setting (take reading.number transactions) reading.table 0 reading.key
+
+-- The book is of the log of a publisher that is being closed, in which the receipts of the seats are, and of which each
+-- connection has seen a beginning. So many streams acquired slots in its events, of which each has seen the first.
+pub record AreWitnessed (checked : CheckedOf) (acquired : ℕ) (seats : List SeatOf) (served : List ServedOf)
+    (book : Book) : Type 0 where
+  pub closing : ClosingOf
+  pub logged : IsLogOfSeats checked closing.log seats book
+  pub witnessed : All (IsWitnessed checked) served
+  pub seen : All (λ (one : ServedOf). IsSeenIn closing one.viewer) served
+  pub count : acquired ≡ acquisitions closing.events

@@ -7,14 +7,15 @@ pub mod Following
 pub mod Gathering
 pub mod Hearing
 pub mod Histories
-pub mod Releasing
 pub mod Listening
 pub mod Pieces
 pub mod Reached
 pub mod Refusing
 pub mod Replays
+pub mod Results
 pub mod Running
 pub mod Sending
 pub mod Serving
 pub mod Speaking
+pub mod Starts
 pub mod TakenCommits

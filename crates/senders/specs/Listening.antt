@@ -1,5 +1,5 @@
 -- What a listener does with what it reads: PostgreSQL 15, 55.4. Streaming Replication Protocol.
-use Rattle.std.specs.Prelude.{◌≡◌, ℕ, ◌<◌, Bool, true, List, ◌++◌, length, take, Option, Some, None, Result, Ok, Err}
+use Rattle.std.specs.Prelude.{◌≡◌, ℕ, ◌<◌, Bool, true, false, List, ◌++◌, length, slice_index, take, Option, Some, None, Result, Ok, Err}
 use Rattle.std.specs.Io.KnownBytes.{Consumes}
 use Rattle.filter_tree.specs.Memory.{Answers}
 use Rattle.shard_checker.specs.CheckedView.{CheckedOf}
@@ -8,12 +8,17 @@ use Rattle.tables_log.specs.Lsn.{end_lsn_of}
 use Rattle.tables_log.specs.Slots.{confirmed_at}
 use Rattle.tables_log.specs.declared.book.Book.{Book}
 use Rattle.copy_both.specs.Ears.{HearLeaves, ear_phase, ear_refusal, ear_started, hear_answer}
-use Rattle.copy_both.specs.HeardFrames.{frames_in, AsksIfStarted, HasEnd, HasHeard, Requests}
+use Rattle.copy_both.specs.HeardFrames.{frames_in, AsksIfStarted, BooksOf, HasEnd, HasHeard, Requests}
 use Rattle.copy_both.specs.Voices.{reported_fault}
 use Rattle.copy_both.specs.declared.heard.Heard.{Heard}
 use Rattle.copy_both.specs.declared.link_fault.LinkFault.{LinkFault}
 use Rattle.copy_both.specs.declared.link_fault.LinkFault.TheVariants.{StatusAhead}
+use Rattle.publisher_desk.specs.SlotSights.{hold}
+use Rattle.publisher_desk.specs.Viewers.{SeesMore, ViewerOf}
 use Rattle.publisher_desk.specs.declared.connection_state.ConnectionState.{ConnectionState}
+use Rattle.publisher_desk.specs.declared.slot_event.Acquisition.{Acquisition}
+use Rattle.publisher_desk.specs.declared.slot_sight.Hold.{Hold}
+use Rattle.senders.specs.Results.{acquisition, books_seen}
 use Rattle.senders.specs.Hearing.{Faults, IsSentFrom, StaysStarted, sent_by}
 use Rattle.senders.specs.declared.beginning.Beginning.{Beginning}
 use Rattle.senders.specs.declared.beginning.Beginning.TheVariants as beginning
@@ -31,10 +36,21 @@ abbrev pub SaysRequested : List ℕ → Listener → Type 0
 SaysRequested bytes listener = (slot start : ℕ) → ear_started listener.ear ≡ Some (slot, start)
     → listener.is_requested ≡ true → Requests (frames_in bytes) slot start
 
--- It has heard these bytes.
-pub record HasListened (checked : CheckedOf) (bytes : List ℕ) (listener : Listener) : Type 0 where
-  pub heard : HasHeard checked bytes listener.ear
+-- The connection has the slot of the stream that its listener started, or has none.
+abbrev pub HoldsStream : Option (ℕ × ℕ) → Bool → ℕ → Option Hold → Type 0
+HoldsStream None is_requested number held = (held ≡ None) × (number ≡ 0)
+HoldsStream (Some started) is_requested number held =
+    held ≡ Some (hold (acquisition started.0 started.1 is_requested) number)
+
+abbrev pub IsHolding : ViewerOf → Listener → Type 0
+IsHolding viewer listener =
+    HoldsStream (ear_started listener.ear) listener.is_requested listener.number viewer.held
+
+-- It has heard these bytes, and its connection has seen this.
+pub record HasListened (checked : CheckedOf) (viewer : ViewerOf) (bytes : List ℕ) (listener : Listener) : Type 0 where
+  pub heard : HasHeard checked (books_seen viewer) bytes listener.ear
   pub requested : SaysRequested bytes listener
+  pub holding : IsHolding viewer listener
 
 -- Of a stream that starts now it says that its start was requested only if that is after what was confirmed for the
 -- slot; of one that had started before it says what it said then.
@@ -48,6 +64,34 @@ pub record Compares (before after : Listener) (old : Book) : Type 0 where
 -- the bytes that are to be heard
 abbrev pub piece_of : Listener → List ℕ
 piece_of listener = take listener.filled listener.piece.items
+
+-- A slot was acquired for a stream that starts now, by this number; otherwise no stream starts, and the listener keeps
+-- its number.
+abbrev pub AcquiresFor : Listener → Listener → ℕ → Option Acquisition → Type 0
+AcquiresFor before after number None =
+    (ear_started before.ear ≡ None → ear_started after.ear ≡ None) × (after.number ≡ before.number)
+AcquiresFor before after number (Some one) = (ear_started before.ear ≡ None)
+    × (ear_started after.ear ≡ Some (one.slot, one.start)) × (after.is_requested ≡ one.is_requested)
+    × (after.number ≡ number)
+
+-- Of a stream that has just started the listener notes the number of its acquisition, and that its client requested the
+-- start if that is after what was confirmed.
+pub record NotesStart (was_started : Bool) (confirmed : List ℕ) (number : ℕ) (before after : Listener)
+    (one : Acquisition) : Type 0 where
+  pub began : was_started ≡ false
+  pub started_is : ear_started before.ear ≡ Some (one.slot, one.start)
+  pub ear_is : after.ear ≡ before.ear
+  pub room : length after.piece.items ≡ length before.piece.items
+  pub requested_is : after.is_requested ≡ one.is_requested
+  pub number_is : after.number ≡ number
+  pub within : one.is_requested ≡ true → one.slot < length confirmed
+  pub late : one.is_requested ≡ true → slice_index confirmed one.slot < one.start
+
+abbrev pub NotesStartIf : Bool → List ℕ → ℕ → Listener → Listener → Option Acquisition → Type 0
+NotesStartIf was_started confirmed number before after None =
+    (after ≡ before) × (was_started ≡ false → ear_started before.ear ≡ None)
+NotesStartIf was_started confirmed number before after (Some one) =
+    NotesStart was_started confirmed number before after one
 
 -- The ear heard the piece, with the sent position of the slot's connection. A status is ahead only of a log that has
 -- the start of the stream.
@@ -63,44 +107,50 @@ pub record HeardPiece (before after : Listener) (old new : Book) (connections : 
 
 -- ---- outside of it
 
--- What it says with the piece is so, whatever it had heard before.
-pub record SaysOfPiece (checked : CheckedOf) (piece : List ℕ) (old new : Listener) : Type 0 where
-  pub each : (bytes : List ℕ) → HasListened checked bytes old → SaysRequested (bytes ++ piece) new
+-- What it says with the piece is so, and what its connection then has, whatever it had heard before.
+pub record SaysOfPiece (checked : CheckedOf) (was now : ViewerOf) (piece : List ℕ) (old new : Listener) : Type 0 where
+  pub each : (bytes : List ℕ) → HasListened checked was bytes old → SaysRequested (bytes ++ piece) new
+  pub holding : (bytes : List ℕ) → HasListened checked was bytes old → IsHolding now new
+  pub sees : SeesMore was now
 
 -- A listener has heard these bytes, and hears on. What it had started stays so.
-pub record HearsOn (checked : CheckedOf) (bytes : List ℕ) (old new : Listener) : Type 0 where
-  pub has : HasListened checked bytes new
+pub record HearsOn (checked : CheckedOf) (viewer : ViewerOf) (bytes : List ℕ) (old new : Listener) : Type 0 where
+  pub has : HasListened checked viewer bytes new
   pub stays : StaysStarted old.ear new.ear
 
 -- More bytes were read and heard, and the ear hears on.
-pub record HearsMore (checked : CheckedOf) (before after : Option (List ℕ)) (old new : Listener) : Type 0 where
+pub record HearsMore (checked : CheckedOf) (was now : ViewerOf) (before after : Option (List ℕ))
+    (old new : Listener) : Type 0 where
   pub more : List ℕ
   pub read : Consumes before after more
-  pub heard : (bytes : List ℕ) → HasListened checked bytes old → HearsOn checked (bytes ++ more) old new
+  pub sees : SeesMore was now
+  pub heard : (bytes : List ℕ) → HasListened checked was bytes old → HearsOn checked now (bytes ++ more) old new
   pub room : length new.piece.items ≡ length old.piece.items
 
 -- Why it ended, by the bytes, by the response that it has to a refused start, and by what the source says of itself.
-abbrev pub EndsFor : CheckedOf → List ℕ → Option (ℕ × ℕ) → List ℕ → Bool → Bool → ListenerEnd → Type 0
-EndsFor checked bytes started response failed ended listener_end.SourceFailed = failed ≡ true
-EndsFor checked bytes started response failed ended listener_end.SourceEnded = ended ≡ true
-EndsFor checked bytes started response failed ended (listener_end.Frame kind) = HasEnd (frames_in bytes) kind
-EndsFor checked bytes started response failed ended (listener_end.Fault fault) =
-    Faults checked bytes started response fault
+abbrev pub EndsFor : CheckedOf → BooksOf → List ℕ → Option (ℕ × ℕ) → List ℕ → Bool → Bool → ListenerEnd → Type 0
+EndsFor checked known bytes started response failed ended listener_end.SourceFailed = failed ≡ true
+EndsFor checked known bytes started response failed ended listener_end.SourceEnded = ended ≡ true
+EndsFor checked known bytes started response failed ended (listener_end.Frame kind) = HasEnd (frames_in bytes) kind
+EndsFor checked known bytes started response failed ended (listener_end.Fault fault) =
+    Faults checked known bytes started response fault
 
-pub record EndsOf (checked : CheckedOf) (bytes : List ℕ) (old new : Listener) (failed ended : Bool)
-    (why : ListenerEnd) : Type 0 where
-  pub asks : AsksIfStarted checked (frames_in bytes) (ear_started new.ear)
-  pub ends : EndsFor checked bytes (ear_started new.ear) (ear_refusal new.ear) failed ended why
+pub record EndsOf (checked : CheckedOf) (viewer : ViewerOf) (bytes : List ℕ) (old new : Listener)
+    (failed ended : Bool) (why : ListenerEnd) : Type 0 where
+  pub asks : AsksIfStarted checked (books_seen viewer) (frames_in bytes) (ear_started new.ear)
+  pub ends : EndsFor checked (books_seen viewer) bytes (ear_started new.ear) (ear_refusal new.ear) failed ended why
   pub stays : StaysStarted old.ear new.ear
   pub requested : SaysRequested bytes new
+  pub holding : IsHolding viewer new
 
 -- More bytes were read and heard, and the listener ended.
-pub record HearsLast (checked : CheckedOf) (before after : Option (List ℕ)) (failed ended : Bool) (old new : Listener)
-    (why : ListenerEnd) : Type 0 where
+pub record HearsLast (checked : CheckedOf) (was now : ViewerOf) (before after : Option (List ℕ)) (failed ended : Bool)
+    (old new : Listener) (why : ListenerEnd) : Type 0 where
   pub more : List ℕ
   pub read : Consumes before after more
-  pub ends : (bytes : List ℕ) → HasListened checked bytes old
-      → EndsOf checked (bytes ++ more) old new failed ended why
+  pub sees : SeesMore was now
+  pub ends : (bytes : List ℕ) → HasListened checked was bytes old
+      → EndsOf checked now (bytes ++ more) old new failed ended why
 
 -- what comes of a piece
 abbrev pub next_by_end : Bool → Option ℕ → Next
@@ -115,36 +165,39 @@ abbrev pub next_after : Listened → Next
 next_after listened = next_by listened.was_over listened.heard
 
 -- One read: it goes on, where the connection had ended before or not, or ends.
-abbrev pub HearsNext : CheckedOf → Option (List ℕ) → Option (List ℕ) → Bool → Bool → Listener → Listener → Next → Type 0
-HearsNext checked before after failed ended old new (next.GoesOn was_over) = HearsMore checked before after old new
-HearsNext checked before after failed ended old new (next.Ends why) =
-    HearsLast checked before after failed ended old new why
+abbrev pub HearsNext : CheckedOf → ViewerOf → ViewerOf → Option (List ℕ) → Option (List ℕ) → Bool → Bool → Listener
+    → Listener → Next → Type 0
+HearsNext checked was now before after failed ended old new (next.GoesOn was_over) =
+    HearsMore checked was now before after old new
+HearsNext checked was now before after failed ended old new (next.Ends why) =
+    HearsLast checked was now before after failed ended old new why
 
 -- All reads: it ends, or its sender had ended.
-abbrev pub HearsAll : CheckedOf → Option (List ℕ) → Option (List ℕ) → Bool → Bool → Listener → Listener
-    → Option ListenerEnd → Type 0
-HearsAll checked before after failed ended old new None = HearsMore checked before after old new
-HearsAll checked before after failed ended old new (Some why) = HearsLast checked before after failed ended old new why
+abbrev pub HearsAll : CheckedOf → ViewerOf → ViewerOf → Option (List ℕ) → Option (List ℕ) → Bool → Bool → Listener
+    → Listener → Option ListenerEnd → Type 0
+HearsAll checked was now before after failed ended old new None = HearsMore checked was now before after old new
+HearsAll checked was now before after failed ended old new (Some why) =
+    HearsLast checked was now before after failed ended old new why
 
 -- ---- until a stream starts
 
 -- The stream started, and goes on.
-pub record StartsOn (checked : CheckedOf) (before after : Option (List ℕ)) (old new : Listener) (started : ℕ × ℕ) :
-    Type 0 where
-  pub hears : HearsMore checked before after old new
+pub record StartsOn (checked : CheckedOf) (was now : ViewerOf) (before after : Option (List ℕ)) (old new : Listener)
+    (started : ℕ × ℕ) : Type 0 where
+  pub hears : HearsMore checked was now before after old new
   pub started_is : ear_started new.ear ≡ Some started
 
 -- The connection ended, with a stream or without.
-pub record EndsAt (checked : CheckedOf) (before after : Option (List ℕ)) (failed ended : Bool) (old new : Listener)
-    (started : Option (ℕ × ℕ)) (why : ListenerEnd) : Type 0 where
-  pub hears : HearsLast checked before after failed ended old new why
+pub record EndsAt (checked : CheckedOf) (was now : ViewerOf) (before after : Option (List ℕ)) (failed ended : Bool)
+    (old new : Listener) (started : Option (ℕ × ℕ)) (why : ListenerEnd) : Type 0 where
+  pub hears : HearsLast checked was now before after failed ended old new why
   pub started_is : ear_started new.ear ≡ started
 
-abbrev pub BeginsAs : CheckedOf → Option (List ℕ) → Option (List ℕ) → Bool → Bool → Listener → Listener → Beginning
-    → Type 0
-BeginsAs checked before after failed ended old new (beginning.Started started) =
-    StartsOn checked before after old new started
-BeginsAs checked before after failed ended old new (beginning.Ended started why) =
-    EndsAt checked before after failed ended old new (Some started) why
-BeginsAs checked before after failed ended old new (beginning.Refused why) =
-    EndsAt checked before after failed ended old new None why
+abbrev pub BeginsAs : CheckedOf → ViewerOf → ViewerOf → Option (List ℕ) → Option (List ℕ) → Bool → Bool → Listener
+    → Listener → Beginning → Type 0
+BeginsAs checked was now before after failed ended old new (beginning.Started started) =
+    StartsOn checked was now before after old new started
+BeginsAs checked was now before after failed ended old new (beginning.Ended started why) =
+    EndsAt checked was now before after failed ended old new (Some started) why
+BeginsAs checked was now before after failed ended old new (beginning.Refused why) =
+    EndsAt checked was now before after failed ended old new None why

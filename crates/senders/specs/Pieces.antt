@@ -11,6 +11,7 @@ pub record PullsPiece (before after : Option (List ℕ)) (bytes : List ℕ) (old
   pub piece : bytes ≡ piece_of new
   pub ear : new.ear ≡ old.ear
   pub same : new.is_requested ≡ old.is_requested
+  pub number : new.number ≡ old.number
   pub room : length new.piece.items ≡ length old.piece.items
 
 -- No byte was read, as the source says of itself.
@@ -18,6 +19,7 @@ pub record PullsNothing (before after : Option (List ℕ)) (says : Bool) (old ne
   pub read : Consumes before after []
   pub ear : new.ear ≡ old.ear
   pub same : new.is_requested ≡ old.is_requested
+  pub number : new.number ≡ old.number
   pub said : says ≡ true
 
 abbrev pub Pulls : Option (List ℕ) → Option (List ℕ) → Bool → Bool → Listener → Listener → Result Bool Failed → Type 0

@@ -1,27 +1,61 @@
 -- That no stream started after commits of the log that its slot was never sent: PostgreSQL 15, "Logical Replication",
 -- 31.2.1 Replication Slot Management.
-use Rattle.std.specs.Prelude.{◌≡◌, ◌<◌, ◌≤◌, ℕ, ◌+◌, true, List, Contains, length, Some}
-use Rattle.senders.specs.TakenCommits.{taken_from, taken_of}
-use Rattle.senders.specs.declared.served.Served.{Served}
+use Rattle.std.specs.Prelude.{◌≡◌, ◌≢◌, ◌<◌, ◌≤◌, ℕ, ◌+◌, true, List, [], ◌∷◌, ◌++◌, Contains, length, map, Option, Some, None}
+use Rattle.std.specs.List.{range_with_len}
+use Rattle.std.specs.List.Sorted.{IsPermutation, IsNonDecreasingBy}
+use Rattle.senders.specs.Results.{ServedOf, taken_from}
+
+-- ---- the connections that started a stream
+
+-- a connection before these others, if it has a start
+abbrev pub if_started : Option ℕ → ServedOf → List ServedOf → List ServedOf
+if_started None one others = others
+if_started (Some start) one others = one ∷ others
+
+-- those with a start, in their order
+abbrev pub started_in : List ServedOf → List ServedOf
+started_in [] = []
+started_in (one ∷ all) = if_started one.start one (started_in all)
+
+-- the numbers of their acquisitions
+abbrev pub numbers_in : List ServedOf → List ℕ
+numbers_in all = map (λ (one : ServedOf). one.number) all
+
+-- Those that started a stream, in the order in which they acquired their slots: their numbers are 1 to this count, each
+-- once.
+pub record IsOrder (count : ℕ) (all order : List ServedOf) : Type 0 where
+  pub same : IsPermutation (started_in all) order
+  pub numbered : numbers_in order ≡ range_with_len 1 count
+
+-- Sorted by their numbers, those that started a stream do not have the numbers 1 to this count.
+pub record LacksConnection (count : ℕ) (all : List ServedOf) : Type 0 where
+  pub sorted : List ServedOf
+  pub same : IsPermutation (started_in all) sorted
+  pub order : IsNonDecreasingBy (λ (one : ServedOf). one.number) sorted
+  pub other : numbers_in sorted ≢ range_with_len 1 count
+
+-- ---- the commits before a start
 
 -- The commit of the log that this number of commits precede is accounted for by a connection of the slot: it was taken
 -- for it, or it is before the position that its client requested.
-pub data Accounts (slot count : ℕ) (one : Served) : Type 0 where
-  Takes : one.slot ≡ Some slot → taken_from one ≤ count → count < taken_from one + length (taken_of one)
+pub data Accounts (slot count : ℕ) (one : ServedOf) : Type 0 where
+  Takes : one.slot ≡ Some slot → taken_from one ≤ count → count < taken_from one + length one.taken
       → Accounts slot count one
   Requests : one.slot ≡ Some slot → one.is_requested ≡ true → count < taken_from one → Accounts slot count one
 
 -- One of the connections accounts for it.
-pub record IsAccounted (all : List Served) (slot count : ℕ) : Type 0 where
-  pub one : Served
+pub record IsAccounted (all : List ServedOf) (slot count : ℕ) : Type 0 where
+  pub one : ServedOf
   pub among : Contains all one
   pub by : Accounts slot count one
 
--- each commit before the start of a connection of the slot is accounted for
-abbrev pub IsReached : List Served → ℕ → Type 0
-IsReached all slot = (one : Served) → Contains all one → one.slot ≡ Some slot
-    → (count : ℕ) → count < taken_from one → IsAccounted all slot count
+-- In this order of the connections: each commit before the start of one of the slot was taken for one of the slot
+-- before it, or is before a position that its client, or that of one of the slot before it, requested.
+abbrev pub IsReached : List ServedOf → ℕ → Type 0
+IsReached order slot = (earlier : List ServedOf) (one : ServedOf) (later : List ServedOf)
+    → order ≡ earlier ++ one ∷ later → one.slot ≡ Some slot → (count : ℕ) → count < taken_from one
+    → IsAccounted (earlier ++ one ∷ []) slot count
 
 -- so it is of each slot
-abbrev pub AreReached : ℕ → List Served → Type 0
-AreReached slots all = (slot : ℕ) → slot < slots → IsReached all slot
+abbrev pub AreReached : ℕ → List ServedOf → Type 0
+AreReached slots order = (slot : ℕ) → slot < slots → IsReached order slot

@@ -10,7 +10,7 @@ use Rattle.tables_log.specs.declared.error.CommitError.TheVariants as e
 use Rattle.publisher_desk.specs.Receipts.{ReceiptOf, transactions_of}
 use Rattle.senders.specs.CloseCauses.{IsUnlike}
 use Rattle.senders.specs.declared.close_error.CloseError.{CloseError}
-use Rattle.senders.specs.declared.close_error.CloseError.TheVariants.{CountDiffers, ReceiptMissing, ReadingWrong, TakenDiffers, StartLate, OutOfMemory}
+use Rattle.senders.specs.declared.close_error.CloseError.TheVariants.{CountDiffers, ReceiptMissing, ReadingWrong, TakenDiffers, ConnectionMissing, StartLate, OutOfMemory}
 
 -- ---- one receipt
 
@@ -33,6 +33,7 @@ IsMissingFor reason CountDiffers = ⊥
 IsMissingFor reason ReceiptMissing = reason
 IsMissingFor reason ReadingWrong = ⊥
 IsMissingFor reason TakenDiffers = ⊥
+IsMissingFor reason ConnectionMissing = ⊥
 IsMissingFor reason StartLate = ⊥
 IsMissingFor reason OutOfMemory = Unit {0}
 

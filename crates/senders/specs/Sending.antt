@@ -1,5 +1,5 @@
 -- What a sender writes of a stream, and which commits it takes up: PostgreSQL 15, 55.4. Streaming Replication Protocol.
-use Rattle.std.specs.Prelude.{◌≡◌, ℕ, List, [], ◌++◌, All, length, Option}
+use Rattle.std.specs.Prelude.{◌≡◌, ℕ, suc, List, [], ◌++◌, All, length, slice_get, Option, Some}
 use Rattle.std.specs.Io.KnownBytes.{Appends}
 use Rattle.shard_checker.specs.CheckedView.{CheckedOf}
 use Rattle.tables_log.specs.Commits.{CommitOf}
@@ -11,6 +11,8 @@ use Rattle.copy_both.specs.VoiceLaws.{AreAt, Follow, VoiceRun, IsTelling, start_
 use Rattle.copy_both.specs.Voices as voices
 use Rattle.copy_both.specs.Voices.{StageOf, voice_output}
 use Rattle.copy_both.specs.declared.voice.Voice.{Voice}
+use Rattle.publisher_desk.specs.Receipts.{ReceiptOf}
+use Rattle.publisher_desk.specs.Viewers.{SeesMore, ViewerOf, log_seen}
 use Rattle.stream_laws.specs.LayoutRoom.{IsClocked}
 use Rattle.senders.specs.declared.sender_end.SenderEnd.{SenderEnd}
 use Rattle.senders.specs.declared.sender_end.SenderEnd.TheVariants as sender_end
@@ -94,6 +96,21 @@ TellsAs sender_end.ConnectionEnded before after taken voice told = TellsOn befor
 TellsAs sender_end.Finished before after taken voice told = TellsOn before after taken voice told
 TellsAs sender_end.WriteFault before after taken voice told = Breaks before after taken voice told
 TellsAs sender_end.OutOfMemory before after taken voice told = Breaks before after taken voice told
+
+-- The log has this commit, at its number.
+pub record IsLogged (log : List CommitOf) (commit : CommitOf) : Type 0 where
+  pub place : ℕ
+  pub number_is : commit.number ≡ suc place
+  pub at : slice_get log place ≡ Some commit
+
+-- the log that was seen has these
+abbrev pub AreLogged : CheckedOf → List ReceiptOf → List CommitOf → Type 0
+AreLogged checked seen commits = All (IsLogged (log_seen checked seen)) commits
+
+-- What was seen before is a beginning of what is seen now, which has the commits that were taken.
+pub record TakesLogged (checked : CheckedOf) (was now : ViewerOf) (taken : List CommitOf) : Type 0 where
+  pub sees : SeesMore was now
+  pub logged : AreLogged checked now.seen taken
 
 -- and what is written then
 abbrev pub StopsAs : SenderEnd → Option (List ℕ) → Option (List ℕ) → List CommitOf → Voice → VoiceRun → Type 0

@@ -1,13 +1,12 @@
 -- What came of a connection that was served: which stream was started for it, what was written, and why it ended:
 -- PostgreSQL 15, 55.4. Streaming Replication Protocol.
-use Rattle.std.specs.Prelude.{◌≡◌, ◌≢◌, ◌⊎◌, ℕ, Bool, true, false, List, [], ◌++◌, All, length, map, Option, Some, None}
-use Rattle.std.specs.Arc.{arc_value}
+use Rattle.std.specs.Prelude.{◌≡◌, ◌≢◌, ◌⊎◌, ℕ, Bool, true, false, List, [], ◌++◌, All, length, Option, Some, None}
 use Rattle.std.specs.Io.KnownBytes.{Appends, Consumes}
 use Rattle.shard_checker.specs.CheckedView.{CheckedOf}
 use Rattle.tables_log.specs.Commits.{CommitOf}
 use Rattle.copy_frames.specs.Contents.{copy_done}
 use Rattle.copy_frames.specs.declared.frame.Frame.{Frame}
-use Rattle.copy_both.specs.HeardFrames.{AsksFor, HasEnd, IsRefusedStart, Requests, frames_in}
+use Rattle.copy_both.specs.HeardFrames.{AsksFor, BooksOf, HasEnd, IsRefusedStart, Requests, frames_in}
 use Rattle.copy_both.specs.Refusals.{error_response}
 use Rattle.copy_both.specs.Streams.{Move, stream}
 use Rattle.tables_log.specs.Lsn.{commits_before}
@@ -17,7 +16,7 @@ use Rattle.copy_both.specs.declared.link_fault.LinkFault.TheVariants as fault
 use Rattle.copy_both.specs.declared.sql_state.SqlState.{SqlState}
 use Rattle.senders.specs.declared.end.End.{End}
 use Rattle.senders.specs.declared.end.End.TheVariants as end
-use Rattle.senders.specs.declared.served.Served.{Served}
+use Rattle.senders.specs.Results.{ServedOf, books_seen}
 use Rattle.stream_laws.specs.LayoutRoom.{IsClocked}
 use Rattle.senders.specs.Hearing.{HoldsFault}
 
@@ -36,9 +35,9 @@ pub data IsAfterStream (frames : List Frame) (last : List ℕ) : Type 0 where
 -- The commits that were taken up follow one another from the start on, and what was written are the first bytes of
 -- their stream, in each log that has them there; all but where the sink failed or memory was refused. Where the
 -- publisher was finished they are the whole stream.
-pub record IsStream (checked : CheckedOf) (frames : List Frame) (slot start : ℕ) (taken : List CommitOf)
+pub record IsStream (checked : CheckedOf) (known : BooksOf) (frames : List Frame) (slot start : ℕ) (taken : List CommitOf)
     (written : List ℕ) (failed : Bool) (why : End) : Type 0 where
-  pub asks : AsksFor checked frames slot start
+  pub asks : AsksFor checked known frames slot start
   pub follow : Follow (commits_before start) taken
   pub moves : List Move
   pub clocks : All IsClocked moves
@@ -52,32 +51,32 @@ pub record IsStream (checked : CheckedOf) (frames : List Frame) (slot start : �
   pub whole : why ≡ end.Finished → IsTail rest last
 
 -- The first bytes of the ErrorResponse to a start that was refused were written, all but where the sink failed.
-pub record IsResponse (checked : CheckedOf) (frames : List Frame) (state : SqlState) (written : List ℕ)
+pub record IsResponse (checked : CheckedOf) (known : BooksOf) (frames : List Frame) (state : SqlState) (written : List ℕ)
     (failed : Bool) : Type 0 where
-  pub start : IsRefusedStart checked frames state
+  pub start : IsRefusedStart checked known frames state
   pub rest : List ℕ
   pub bytes : written ++ rest ≡ error_response start.refusal
   pub all : failed ≡ false → rest ≡ []
 
 -- where no stream was started, nothing is written but the response to a start that was refused
-abbrev pub IsUnstartedAnswer : CheckedOf → List Frame → List ℕ → Bool → End → Type 0
-IsUnstartedAnswer checked frames written failed (end.Link (fault.BadStart state)) =
-    IsResponse checked frames state written failed
-IsUnstartedAnswer checked frames written failed end.Finished = ⊥
-IsUnstartedAnswer checked frames written failed other = written ≡ []
+abbrev pub IsUnstartedAnswer : CheckedOf → BooksOf → List Frame → List ℕ → Bool → End → Type 0
+IsUnstartedAnswer checked known frames written failed (end.Link (fault.BadStart state)) =
+    IsResponse checked known frames state written failed
+IsUnstartedAnswer checked known frames written failed end.Finished = ⊥
+IsUnstartedAnswer checked known frames written failed other = written ≡ []
 
-pub record IsUnstarted (checked : CheckedOf) (frames : List Frame) (taken : List CommitOf) (written : List ℕ)
+pub record IsUnstarted (checked : CheckedOf) (known : BooksOf) (frames : List Frame) (taken : List CommitOf) (written : List ℕ)
     (failed : Bool) (why : End) : Type 0 where
   pub none : taken ≡ []
-  pub answer : IsUnstartedAnswer checked frames written failed why
+  pub answer : IsUnstartedAnswer checked known frames written failed why
 
 -- a slot is reported together with a start
-abbrev pub IsWritten : CheckedOf → List Frame → Option ℕ → Option ℕ → List CommitOf → List ℕ → Bool → End → Type 0
-IsWritten checked frames (Some slot) (Some start) taken written failed why =
-    IsStream checked frames slot start taken written failed why
-IsWritten checked frames None None taken written failed why = IsUnstarted checked frames taken written failed why
-IsWritten checked frames (Some slot) None taken written failed why = ⊥
-IsWritten checked frames None (Some start) taken written failed why = ⊥
+abbrev pub IsWritten : CheckedOf → BooksOf → List Frame → Option ℕ → Option ℕ → List CommitOf → List ℕ → Bool → End → Type 0
+IsWritten checked known frames (Some slot) (Some start) taken written failed why =
+    IsStream checked known frames slot start taken written failed why
+IsWritten checked known frames None None taken written failed why = IsUnstarted checked known frames taken written failed why
+IsWritten checked known frames (Some slot) None taken written failed why = ⊥
+IsWritten checked known frames None (Some start) taken written failed why = ⊥
 
 -- ---- why it ended
 
@@ -93,14 +92,14 @@ pub record IsEnded (frames : List Frame) : Type 0 where
   pub has : HasEnd frames kind
 
 -- by the bytes that were read, and by what the source and the sink say of themselves
-abbrev pub IsEndCause : CheckedOf → List ℕ → Option (ℕ × ℕ) → Bool → Bool → Bool → End → Type 0
-IsEndCause checked bytes started source_failed source_ended sink_failed end.ReadFault = source_failed ≡ true
-IsEndCause checked bytes started source_failed source_ended sink_failed end.WriteFault = sink_failed ≡ true
-IsEndCause checked bytes started source_failed source_ended sink_failed (end.Link fault) =
-    HoldsFault checked bytes started fault
-IsEndCause checked bytes started source_failed source_ended sink_failed end.Client =
+abbrev pub IsEndCause : CheckedOf → BooksOf → List ℕ → Option (ℕ × ℕ) → Bool → Bool → Bool → End → Type 0
+IsEndCause checked known bytes started source_failed source_ended sink_failed end.ReadFault = source_failed ≡ true
+IsEndCause checked known bytes started source_failed source_ended sink_failed end.WriteFault = sink_failed ≡ true
+IsEndCause checked known bytes started source_failed source_ended sink_failed (end.Link fault) =
+    HoldsFault checked known bytes started fault
+IsEndCause checked known bytes started source_failed source_ended sink_failed end.Client =
     (source_ended ≡ true) ⊎ IsEnded (frames_in bytes)
-IsEndCause checked bytes started source_failed source_ended sink_failed end.Finished = Unit {0}
+IsEndCause checked known bytes started source_failed source_ended sink_failed end.Finished = Unit {0}
 
 -- why its client ended a stream: there was nothing more to read, a frame of another kind than CopyDone ended it, or
 -- CopyDone did, and was answered
@@ -111,19 +110,16 @@ pub data HasClientLeft (source_ended : Bool) (frames : List Frame) (written : Li
 
 -- ---- all of it
 
-abbrev pub commits_of : Served → List CommitOf
-commits_of served = map (λ commit. arc_value commit) served.taken.items
-
--- What came of a connection from which these bytes were read. If it says that its client requested the position where
--- the stream starts, the first frame does.
+-- What came of a connection from which these bytes were read. Starts and refusals are those of a book that the publisher
+-- has had. If it says that its client requested the position where the stream starts, the first frame does.
 pub record IsServedFor (checked : CheckedOf) (bytes : List ℕ) (source_failed source_ended : Bool)
-    (before after : Option (List ℕ)) (sink_failed : Bool) (served : Served) : Type 0 where
+    (before after : Option (List ℕ)) (sink_failed : Bool) (served : ServedOf) : Type 0 where
   pub written : List ℕ
   pub put : Appends before after written
-  pub is : IsWritten checked (frames_in bytes) served.slot served.start (commits_of served) written sink_failed
-      served.end
-  pub cause : IsEndCause checked bytes (started_of served.slot served.start) source_failed source_ended sink_failed
-      served.end
+  pub is : IsWritten checked (books_seen served.viewer) (frames_in bytes) served.slot served.start served.taken written
+      sink_failed served.end
+  pub cause : IsEndCause checked (books_seen served.viewer) bytes (started_of served.slot served.start) source_failed
+      source_ended sink_failed served.end
   pub requested : (slot start : ℕ) → served.slot ≡ Some slot → served.start ≡ Some start
       → served.is_requested ≡ true → Requests (frames_in bytes) slot start
   pub left : (slot : ℕ) → served.slot ≡ Some slot → sink_failed ≡ false → served.end ≡ end.Client
@@ -131,7 +127,7 @@ pub record IsServedFor (checked : CheckedOf) (bytes : List ℕ) (source_failed s
 
 -- The source gave some bytes, and this came of them.
 pub record IsServed (checked : CheckedOf) (left now_left : Option (List ℕ)) (source_failed source_ended : Bool)
-    (before after : Option (List ℕ)) (sink_failed : Bool) (served : Served) : Type 0 where
+    (before after : Option (List ℕ)) (sink_failed : Bool) (served : ServedOf) : Type 0 where
   pub bytes : List ℕ
   pub read : Consumes left now_left bytes
   pub served_for : IsServedFor checked bytes source_failed source_ended before after sink_failed served

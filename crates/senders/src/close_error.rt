@@ -17,12 +17,14 @@ pub enum CloseError {
     /// A reading is not the row of its key after its number of commits.
     #[error("a reading differs from what the commits left")]
     ReadingWrong,
-    /// A commit that was taken for a connection is not that of the log, or a connection that was finished stops
-    /// before the log's end.
-    #[error("a connection took other commits than those of the log")]
+    /// A connection that was finished stops before the log's end.
+    #[error("a finished connection stops before the end of the log")]
     TakenDiffers,
-    /// A stream started after a commit that was taken for no connection of its slot, although no client of the slot
-    /// requested a later position.
+    /// A stream was started for a connection that is not among those that were passed in.
+    #[error("the result of a connection is missing")]
+    ConnectionMissing,
+    /// A stream started after a commit that was taken for no earlier connection of its slot, although neither its
+    /// client nor an earlier one of the slot requested a later position.
     #[error("a stream started after a commit that its slot was never sent")]
     StartLate,
     /// An allocation was refused.

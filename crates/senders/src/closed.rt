@@ -12,5 +12,5 @@ pub struct Closed<P: Publishing> {
     /// The seats, as they were passed in.
     pub seats: Vec<Seat<P>>,
     /// The connections, as they were passed in.
-    pub served: Vec<Served>,
+    pub served: Vec<Served<P>>,
 }

@@ -15,11 +15,11 @@ use std::thread::Threads;
 use std::time::Clock;
 
 /// A connection: what it is read from and written to, and its result when it has been served.
-#[derive(Debug, Drop)]
-pub struct Conn<S, W> {
+#[derive(Drop)]
+pub struct Conn<P: Publishing, S, W> {
     pub reader: S,
     pub writer: W,
-    pub served: Option<Served>,
+    pub served: Option<Served<P>>,
 }
 
 /// Serves a connection, and stores the result in it.
@@ -29,7 +29,7 @@ fn serve_one<
     W: Sink + Send + Drop,
     G: Gate + Sync,
     R: Threads + Wait + Clock + Sync,
->(rt: &R, publisher: &Publisher<P>, connection: &mut Conn<S, W>, gate: &G)
+>(rt: &R, publisher: &Publisher<P>, connection: &mut Conn<P, S, W>, gate: &G)
     ensures { IsSomeAnd connection.new.served (IsServed P.checked (S.left connection.old.reader)
         (S.left connection.new.reader) (S.has_failed connection.new.reader) (S.has_ended connection.new.reader)
         (W.taken connection.old.writer) (W.taken connection.new.writer) (W.has_failed connection.new.writer)) }
@@ -53,7 +53,7 @@ pub fn run_all<
     W: Sink + Send + Drop,
     G: Gate + Sync,
     R: Threads + Wait + Clock + Sync,
->(rt: &R, publisher: &Publisher<P>, connections: &mut [Conn<S, W>], gate: &G)
+>(rt: &R, publisher: &Publisher<P>, connections: &mut [Conn<P, S, W>], gate: &G)
     ensures { (place : ℕ) (other : _) → place < length connections.old
         → IsSomeAnd (slice_index_or connections.new place other).served (IsServed P.checked
         (S.left (slice_index_or connections.old place other).reader)

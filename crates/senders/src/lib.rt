@@ -25,6 +25,7 @@ mod listener_end;
 mod listening;
 mod next;
 mod numbering;
+mod outcome;
 mod reaching;
 mod readings;
 mod refusing;
@@ -51,7 +52,7 @@ pub use laws::{
     clients_of_connections_follow, closed_publishers_were_followed, served_streams_tell_the_log,
 };
 pub use publisher_desk::{
-    Note, Opening, Publisher, Publishing, ReadFault, Reading, Receipt, Seat, Seats,
+    Note, Opening, Publisher, Publishing, ReadFault, Reading, Receipt, Seat, Seats, Viewer,
     threads_share_publishers,
 };
 pub use served::Served;

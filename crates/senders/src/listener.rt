@@ -13,7 +13,7 @@ ghost use Rattle.senders.specs.Hearing.{IsSentFrom, sent_by};
 use crate::failed::Failed;
 use crate::source::Source;
 use copy_both::{Ear, Heard, LinkFault, StreamStart, first_sent};
-use publisher_desk::{ConnectionState, Publisher, Publishing, SlotTask};
+use publisher_desk::{Acquisition, ConnectionState, StreamTask};
 use shard_checker::Checked;
 use std::alloc::{AllocError, Global};
 use std::sync::Arc;
@@ -25,14 +25,16 @@ const SLOTS: usize = 32;
 /// The greatest number of bytes that are read at a time.
 const PIECE: usize = 16_384;
 
-/// An ear, and the piece that it hears next: the first `filled` bytes; and whether the client requested the position
-/// where the stream starts, which is after what was confirmed for the slot. The slot that the ear started is released
-/// by `lose`, and a listener cannot be dropped otherwise.
+/// An ear, and the piece that it hears next: the first `filled` bytes; whether the client requested the position where
+/// the stream starts, which is after what was confirmed for the slot; and the number of the acquisition of its slot, 0 if
+/// no stream was started.
+#[derive(Drop)]
 pub struct Listener {
     ear: Ear,
     piece: Vec<u8>,
     filled: usize,
     is_requested: bool,
+    number: u64,
     ghost within: { filled ≤ length piece.items },
 }
 
@@ -138,15 +140,14 @@ impl Listener {
     ghost use Rattle.std.specs.Prelude.{◌≡◌, ◌<◌, [], None, IfOk, length};
     ghost use Rattle.std.specs.Arc.{arc_value};
     ghost use Rattle.shard_checker.specs.CheckedView.{checked_view};
-    ghost use Rattle.tables_log.specs.BookView.{book_slots};
-    ghost use Rattle.tables_log.specs.Committing.{ChangesSlots};
-    ghost use Rattle.senders.specs.Listening.{HasListened};
-    ghost use Rattle.copy_both.specs.Ears.{ear_phase, ear_refusal, ear_started, slots_after_loss};
+    ghost use Rattle.copy_both.specs.Ears.{ear_refusal, ear_started};
+    ghost use Rattle.publisher_desk.specs.Viewers.{new_viewer};
+    ghost use Rattle.senders.specs.Listening.{HasListened, NotesStartIf};
     ghost use Rattle.senders.specs.Pieces.{Pulls};
 
     /// A listener that has heard nothing. The only error is out of memory.
     pub(crate) fn new(alloc: Global, checked: &Arc<Checked, Global>) -> Result<Listener, AllocError>
-        ensures heard { IfOk result (HasListened (checked_view (arc_value checked.now)) []) }
+        ensures heard { IfOk result (HasListened (checked_view (arc_value checked.now)) new_viewer []) }
         ensures started { IfOk result (λ made. ear_started made.ear ≡ None) }
         ensures room { IfOk result (λ made. 0 < length made.piece.items) }
     {
@@ -157,6 +158,7 @@ impl Listener {
             piece,
             filled: 0,
             is_requested: false,
+            number: 0,
         })
     }
 
@@ -192,44 +194,58 @@ impl Listener {
         self.ear.refusal()
     }
 
-    /// Releases the slot that was started, if there is one.
-    pub(crate) fn lose(self, book: &mut Book)
-        ensures { ChangesSlots book.old book.new
-            (slots_after_loss (ear_phase self.ear) (ear_started self.ear) (book_slots book.old)) }
+    /// The number of the acquisition of the slot whose stream was started; 0 if none was.
+    pub(crate) fn number(&self) -> u64
+        ensures { result ≡ self.now.number }
     {
-        let Listener {
-            mut ear,
-            piece: _,
-            filled: _,
-            is_requested: _,
-        } = self;
-        ear.lose(book);
+        self.number
+    }
+
+    /// The acquisition of the slot of a stream that has just started, which the listener notes; `None` if no stream has.
+    /// The client requested the start if it is after what was confirmed.
+    fn acquire(&mut self, was_started: bool, confirmed: &[Lsn], number: u64) -> Option<Acquisition>
+        ensures { NotesStartIf was_started confirmed.now number self.old self.new result }
+    {
+        let stream = self.ear.stream()?;
+        if was_started {
+            return None;
+        }
+        self.is_requested = is_after(confirmed, stream.slot, stream.start);
+        self.number = number;
+        Some(Acquisition {
+            slot: stream.slot,
+            start: stream.start,
+            is_requested: self.is_requested,
+        })
     }
 }
 
-impl SlotTask for Listener {
-    ghost use Rattle.senders.specs.Listening.{HeardPiece};
+impl StreamTask for Listener {
+    ghost use Rattle.senders.specs.Listening.{AcquiresFor, HeardPiece};
 
     type Answer = Listened;
 
-    ghost did = { λ before after old new connections left listened.
-        HeardPiece before after old new connections listened.heard };
+    ghost did = { λ before after old new connections left number acquired listened.
+        HeardPiece before after old new connections listened.heard × AcquiresFor before after number acquired };
 
-    fn use_slots(&mut self, book: &mut Book, connections: &mut [ConnectionState]) -> Listened {
+    fn use_stream(
+        &mut self,
+        book: &mut Book,
+        connections: &mut [ConnectionState],
+        number: u64,
+    ) -> (Listened, Option<Acquisition>) {
         let was_started = self.ear.stream().is_some();
         let confirmed = confirmed_positions(book);
         let sent = sent_position(self.ear.stream(), connections);
         let heard = hear_piece(&mut self.ear, &self.piece[..self.filled], book, sent);
+        let acquired = self.acquire(was_started, &confirmed, number);
         let mut was_over = false;
         if let Some(stream) = self.ear.stream() {
-            if !was_started {
-                self.is_requested = is_after(&confirmed, stream.slot, stream.start);
-            }
             if let Some(connection) = connections.get(stream.slot).copied() {
                 was_over = was_started && connection.has_ended;
                 connections[stream.slot] = connection_after(connection, !was_started, &heard);
             }
         }
-        Listened { heard, was_over }
+        (Listened { heard, was_over }, acquired)
     }
 }

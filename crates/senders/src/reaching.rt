@@ -1,107 +1,133 @@
 //! Whether no stream started after commits that its slot was never sent.
 
-ghost use Rattle.std.specs.Prelude.{◌≡◌, ◌≢◌, ◌<◌, ◌≤◌, ℕ, All, IfOk, MatchBool, Some, map, true};
+ghost use Rattle.std.specs.Prelude.{◌≡◌, ◌≢◌, ◌<◌, All, IfErr, IfOk, MatchBool, OnOk, Some, false, map, true};
+ghost use Rattle.std.specs.List.{range_with_len};
 ghost use Rattle.std.specs.List.Sorted.{IsNonDecreasingBy, IsPermutation};
-ghost use Rattle.senders.specs.Reached.{Accounts, AreReached, IsAccounted, IsReached};
-ghost use Rattle.senders.specs.TakenCommits.{taken_from};
-ghost use Rattle.senders.specs.declared.served.Served.{Served};
+ghost use Rattle.senders.specs.Reached.{AreReached, IsReached, numbers_in, started_in};
+ghost use Rattle.senders.specs.Results.{taken_from};
+ghost use Rattle.senders.specs.Starts.{AreInTime, IsStartCause};
 
+use crate::close_error::CloseError;
 use crate::served::Served;
-use crate::taken::commits_before;
+use crate::taken::{commits_before, commits_up_to};
+use publisher_desk::Publishing;
 use std::alloc::{AllocError, Global};
 use tables_log::SlotNumber;
 
-/// Puts the connections into the order of their starts.
-fn sort_by_start(all: &mut Vec<&Served>)
-    ensures all { IsPermutation (map (λ one. one.now) all.old.items) (map (λ one. one.now) all.new.items) }
-    ensures sorted { IsNonDecreasingBy taken_from (map (λ one. one.now) all.new.items) }
+/// The connections that started a stream, by reference. The only error is out of memory.
+fn starts_in<P: Publishing>(
+    alloc: Global,
+    served: &[Served<P>],
+) -> Result<Vec<&Served<P>>, AllocError>
+    ensures { IfOk result (λ starts. map (λ one. one.now) starts.items ≡ started_in served.now) }
 {
-    all.sort_unstable_by_key(|one| commits_before(one));
+    let mut starts = Vec::new(alloc);
+    for one in served {
+        if let Some(_) = one.start() {
+            starts.push(one)?;
+        }
+    }
+    Ok(starts)
 }
 
-/// The connections by reference, in the order of their starts. The only error is out of memory.
-fn by_start(alloc: Global, served: &[Served]) -> Result<Vec<&Served>, AllocError>
-    ensures all { IfOk result (λ all. IsPermutation served.now (map (λ one. one.now) all.items)) }
-    ensures sorted { IfOk result (λ all. IsNonDecreasingBy taken_from (map (λ one. one.now) all.items)) }
+/// Puts the connections into the order of their numbers.
+fn sort_by_number<P: Publishing>(starts: &mut Vec<&Served<P>>)
+    ensures all { IsPermutation (map (λ one. one.now) starts.old.items) (map (λ one. one.now) starts.new.items) }
+    ensures sorted { IsNonDecreasingBy (λ one. one.number) (map (λ one. one.now) starts.new.items) }
 {
-    let mut all = Vec::with_capacity(alloc, served.len())?;
-    for one in served {
-        all.push(one)?;
+    starts.sort_unstable_by_key(|one| one.number());
+}
+
+/// Whether the numbers of the connections are 1 to this count.
+fn are_numbered<P: Publishing>(starts: &[&Served<P>], count: u64) -> bool
+    ensures { MatchBool result (numbers_in (map (λ one. one.now) starts.now) ≡ range_with_len 1 count)
+        (numbers_in (map (λ one. one.now) starts.now) ≢ range_with_len 1 count) }
+{
+    if starts.len() as u64 != count {
+        return false;
     }
-    sort_by_start(&mut all);
-    Ok(all)
+    let mut next = 1;
+    for one in starts {
+        if one.number() != next {
+            return false;
+        }
+        next += 1;
+    }
+    true
 }
 
 /// Whether the connection is of this slot.
-fn is_of(one: &Served, slot: SlotNumber) -> bool
+fn is_of<P: Publishing>(one: &Served<P>, slot: SlotNumber) -> bool
     ensures { MatchBool result (one.now.slot ≡ Some slot) (one.now.slot ≢ Some slot) }
 {
-    one.slot == Some(slot)
+    one.slot() == Some(slot)
 }
 
-/// How many commits are before the position that the connection's client requested of the slot; 0 if it requested none.
-fn requested(one: &Served, slot: SlotNumber) -> u64
-    ensures accounted { (count : ℕ) → count < result → Accounts slot count one.now }
-    ensures most { one.now.slot ≡ Some slot → one.now.is_requested ≡ true → taken_from one.now ≤ result }
+/// Whether the connection started after this number of commits, although its client requested no position.
+fn is_late<P: Publishing>(one: &Served<P>, reach: u64) -> bool
+    ensures { MatchBool result ((reach < taken_from one.now) × (one.now.is_requested ≡ false))
+        (reach < taken_from one.now → one.now.is_requested ≡ true) }
 {
-    if is_of(one, slot) && one.is_requested {
-        commits_before(one)
-    } else {
-        0
-    }
+    commits_before(one) > reach && !one.is_requested()
 }
 
-/// The greatest number of commits before a start that a client of the slot requested; 0 if none did.
-fn most_requested(all: &[&Served], slot: SlotNumber) -> u64
-    ensures accounted { (count : ℕ) → count < result → IsAccounted (map (λ one. one.now) all.now) slot count }
-    ensures most { All (λ (one : Served). one.slot ≡ Some slot → one.is_requested ≡ true → taken_from one ≤ result)
-        (map (λ one. one.now) all.now) }
+/// Whether each commit before the start of a connection of the slot was taken for a connection of the slot before it,
+/// or is before a position that its client, or that of one of the slot before it, requested.
+fn is_reached<P: Publishing>(starts: &[&Served<P>], slot: SlotNumber) -> bool
+    ensures { MatchBool result (IsReached (map (λ one. one.now) starts.now) slot)
+        (¬ IsReached (map (λ one. one.now) starts.now) slot) }
 {
-    let mut most = 0;
-    for one in all {
-        most = most.max(requested(one, slot));
-    }
-    most
-}
-
-/// Whether each commit before the start of a connection of the slot was taken for a connection of the slot, or is
-/// before a position that a client of the slot requested. The connections are in the order of their starts.
-fn is_reached(all: &[&Served], slot: SlotNumber) -> bool
-    requires { IsNonDecreasingBy taken_from (map (λ one. one.now) all.now) }
-    ensures { MatchBool result (IsReached (map (λ one. one.now) all.now) slot)
-        (¬ IsReached (map (λ one. one.now) all.now) slot) }
-{
-    let mut reach = most_requested(all, slot);
-    for one in all {
+    let mut reach = 0;
+    for one in starts {
         if is_of(one, slot) {
-            let start = commits_before(one);
-            if start > reach {
+            if is_late(one, reach) {
                 return false;
             }
-            reach = reach.max(start + one.taken.len() as u64);
+            reach = reach.max(commits_up_to(one));
         }
     }
     true
 }
 
-/// Whether, for each of this number of slots, each commit before the start of a connection of the slot was taken for a
-/// connection of the slot, or is before a position that a client of the slot requested. The only error is out of
-/// memory.
-///
-/// It takes the time to sort the connections once, and to pass over them twice for each slot.
-pub(crate) fn are_reached(
-    alloc: Global,
-    slots: usize,
-    served: &[Served],
-) -> Result<bool, AllocError>
-    ensures { IfOk result (λ reached. MatchBool reached (AreReached slots served.now)
-        (¬ AreReached slots served.now)) }
+/// Whether this is so of each of this number of slots.
+fn are_reached<P: Publishing>(starts: &[&Served<P>], slots: usize) -> bool
+    ensures { MatchBool result (AreReached slots (map (λ one. one.now) starts.now))
+        (¬ AreReached slots (map (λ one. one.now) starts.now)) }
 {
-    let all = by_start(alloc, served)?;
     for slot in 0..slots {
-        if !is_reached(all.as_slice(), slot) {
-            return Ok(false);
+        if !is_reached(starts, slot) {
+            return false;
         }
     }
-    Ok(true)
+    true
+}
+
+/// Checks that, of this number of acquisitions of slots, each is that of a connection. Then, for each of this number of
+/// slots, in the order of their numbers: each commit before the start of a connection of the slot was taken for a
+/// connection of the slot before it, or is before a position that its client, or that of one of the slot before it,
+/// requested.
+///
+/// It takes the time to sort the connections once, and to pass over them once for each slot.
+///
+/// # Errors
+///
+/// `ConnectionMissing`, `StartLate` or out of memory.
+pub(crate) fn check_starts<P: Publishing>(
+    alloc: Global,
+    slots: usize,
+    acquired: u64,
+    served: &[Served<P>],
+) -> Result<(), CloseError>
+    ensures ok { OnOk result (AreInTime slots acquired served.now) }
+    ensures err { IfErr result (IsStartCause slots acquired served.now) }
+{
+    let mut starts = starts_in(alloc, served)?;
+    sort_by_number(&mut starts);
+    if !are_numbered(starts.as_slice(), acquired) {
+        return Err(CloseError::ConnectionMissing);
+    }
+    if !are_reached(starts.as_slice(), slots) {
+        return Err(CloseError::StartLate);
+    }
+    Ok(())
 }

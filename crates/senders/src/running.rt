@@ -3,8 +3,9 @@
 ghost use Rattle.std.specs.Prelude.{◌≡◌, ◌<◌, length, map, true};
 ghost use Rattle.std.specs.Arc.{arc_value};
 ghost use Rattle.copy_frames.specs.Contents.{copy_both_response};
+ghost use Rattle.publisher_desk.specs.Viewers.{new_viewer};
 ghost use Rattle.senders.specs.Listening.{HearsAll};
-ghost use Rattle.senders.specs.Sending.{IsQuiet, StopsAs, started_telling};
+ghost use Rattle.senders.specs.Sending.{IsQuiet, StopsAs, TakesLogged, started_telling};
 ghost use Rattle.senders.specs.declared.sender_end.SenderEnd.TheVariants.{WriteFault};
 
 use crate::gate::Gate;
@@ -17,7 +18,7 @@ use crate::sink::Sink;
 use crate::slot_tasks::end_connection;
 use crate::source::Source;
 use copy_both::{StreamStart, Voice};
-use publisher_desk::{Publisher, Publishing};
+use publisher_desk::{Publisher, Publishing, Viewer};
 use std::alloc::Global;
 use std::sync::{Arc, Wait};
 use std::thread::{Threads, join_mut};
@@ -32,7 +33,7 @@ pub struct Sent {
     pub is_first: bool,
 }
 
-/// Sends, and ends the connection if sending failed.
+/// Sends, and ends the connection if sending failed. Returns also what the sender has then seen.
 pub(crate) fn send<P: Publishing, W: Sink, G: Gate, R: Wait + Clock>(
     rt: &R,
     publisher: &Publisher<P>,
@@ -40,14 +41,17 @@ pub(crate) fn send<P: Publishing, W: Sink, G: Gate, R: Wait + Clock>(
     voice: &mut Voice,
     writer: &mut W,
     gate: &G,
-) -> Sent
+) -> (Sent, Viewer<P>)
     requires { IsQuiet voice.old (started_telling P.checked started.0 started.1 copy_both_response) }
-    ensures sent { StopsAs result.stop (W.taken writer.old) (W.taken writer.new)
-        (map (λ commit. arc_value commit) result.taken.items) voice.new
+    ensures sent { StopsAs result.0.stop (W.taken writer.old) (W.taken writer.new)
+        (map (λ commit. arc_value commit) result.0.taken.items) voice.new
         (started_telling P.checked started.0 started.1 copy_both_response) }
-    ensures failed { result.stop ≡ WriteFault → W.has_failed writer.new ≡ true }
+    ensures failed { result.0.stop ≡ WriteFault → W.has_failed writer.new ≡ true }
+    ensures logged { TakesLogged P.checked new_viewer result.1
+        (map (λ commit. arc_value commit) result.0.taken.items) }
 {
-    let (taken, stop) = send_all(rt, publisher, started, voice, writer, gate);
+    let mut viewer = Viewer::new();
+    let (taken, stop) = send_all(rt, publisher, &mut viewer, started, voice, writer, gate);
     let is_first = match stop {
         SenderEnd::ConnectionEnded => false,
         SenderEnd::Finished => true,
@@ -57,26 +61,28 @@ pub(crate) fn send<P: Publishing, W: Sink, G: Gate, R: Wait + Clock>(
             started.slot,
         ),
     };
-    Sent {
+    let sent = Sent {
         taken,
         stop,
         is_first,
-    }
+    };
+    (sent, viewer)
 }
 
 /// Listens, and ends the connection if the listener has a cause.
 fn hear<P: Publishing, S: Source, R: Wait>(
     rt: &R,
     publisher: &Publisher<P>,
+    viewer: &mut Viewer<P>,
     slot: SlotNumber,
     listener: &mut Listener,
     reader: &mut S,
 ) -> Option<ListenerEnd>
     requires { 0 < length listener.old.piece.items }
-    ensures { HearsAll P.checked (S.left reader.old) (S.left reader.new) (S.has_failed reader.new)
-        (S.has_ended reader.new) listener.old listener.new result }
+    ensures { HearsAll P.checked viewer.old viewer.new (S.left reader.old) (S.left reader.new)
+        (S.has_failed reader.new) (S.has_ended reader.new) listener.old listener.new result }
 {
-    let why = listen(rt, publisher, listener, reader);
+    let why = listen(rt, publisher, viewer, listener, reader);
     if why.is_some() {
         end_connection(rt, publisher, slot);
     }
@@ -94,8 +100,8 @@ pub(crate) fn starts_threads<R: Threads>(rt: &R) -> bool {
     }
 }
 
-/// Sends and listens side by side, to the end of the connection. If no other thread can be started, it is heard when
-/// its sender has stopped.
+/// Sends and listens side by side, to the end of the connection. If no other thread can be started, it is heard when its
+/// sender has stopped. Returns what was sent, what the sender has then seen, and why the listener ended, if it did.
 pub(crate) fn run_both<
     P: Publishing + Sync,
     S: Source + Send,
@@ -105,37 +111,42 @@ pub(crate) fn run_both<
 >(
     rt: &R,
     publisher: &Publisher<P>,
+    viewer: &mut Viewer<P>,
     started: StreamStart,
     voice: &mut Voice,
     listener: &mut Listener,
     reader: &mut S,
     writer: &mut W,
     gate: &G,
-) -> (Sent, Option<ListenerEnd>)
+) -> (Sent, Viewer<P>, Option<ListenerEnd>)
     requires quiet { IsQuiet voice.old (started_telling P.checked started.0 started.1 copy_both_response) }
     requires room { 0 < length listener.old.piece.items }
     ensures sent { StopsAs result.0.stop (W.taken writer.old) (W.taken writer.new)
         (map (λ commit. arc_value commit) result.0.taken.items) voice.new
         (started_telling P.checked started.0 started.1 copy_both_response) }
     ensures failed { result.0.stop ≡ WriteFault → W.has_failed writer.new ≡ true }
-    ensures heard { HearsAll P.checked (S.left reader.old) (S.left reader.new) (S.has_failed reader.new)
-        (S.has_ended reader.new) listener.old listener.new result.1 }
+    ensures heard { HearsAll P.checked viewer.old viewer.new (S.left reader.old) (S.left reader.new)
+        (S.has_failed reader.new) (S.has_ended reader.new) listener.old listener.new result.2 }
+    ensures logged { TakesLogged P.checked new_viewer result.1
+        (map (λ commit. arc_value commit) result.0.taken.items) }
 {
     let StreamStart { slot, start } = started;
-    let (why, sent) = join_mut(
+    let (why, (sent, sender)) = join_mut(
         rt,
         &mut || -> Option<ListenerEnd>
             requires { 0 < length listener.now.piece.items }
-            ensures { HearsAll P.checked (S.left reader.entry.now) (S.left reader.exit.now)
+            ensures { HearsAll P.checked viewer.entry.now viewer.exit.now (S.left reader.entry.now) (S.left reader.exit.now)
                 (S.has_failed reader.exit.now) (S.has_ended reader.exit.now)
                 listener.entry.now listener.exit.now result }
-        { hear(rt, publisher, slot, listener, reader) },
-        &mut || -> Sent
+        { hear(rt, publisher, viewer, slot, listener, reader) },
+        &mut || -> (Sent, Viewer<P>)
             requires { IsQuiet voice.now (started_telling P.checked slot start copy_both_response) }
-            ensures sent { StopsAs result.stop (W.taken writer.entry.now) (W.taken writer.exit.now)
-                (map (λ commit. arc_value commit) result.taken.items) voice.exit.now
+            ensures sent { StopsAs result.0.stop (W.taken writer.entry.now) (W.taken writer.exit.now)
+                (map (λ commit. arc_value commit) result.0.taken.items) voice.exit.now
                 (started_telling P.checked slot start copy_both_response) }
-            ensures failed { result.stop ≡ WriteFault → W.has_failed writer.exit.now ≡ true }
+            ensures failed { result.0.stop ≡ WriteFault → W.has_failed writer.exit.now ≡ true }
+            ensures logged { TakesLogged P.checked new_viewer result.1
+                (map (λ commit. arc_value commit) result.0.taken.items) }
         {
             send(
                 rt,
@@ -147,5 +158,5 @@ pub(crate) fn run_both<
             )
         },
     );
-    (sent, why)
+    (sent, sender, why)
 }

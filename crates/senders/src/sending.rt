@@ -1,12 +1,13 @@
 //! What is sent on a connection.
 
-ghost use Rattle.std.specs.Prelude.{◌≡◌, ◌++◌, [], map, true, IfOk, OnOk, OnErr, MatchResult};
+ghost use Rattle.std.specs.Prelude.{◌≡◌, ◌++◌, [], map, true, IfOk, IfSome, OnOk, OnErr, MatchResult};
 ghost use Rattle.std.specs.Arc.{arc_value};
 ghost use Rattle.copy_both.specs.Voices.{voice_checked, voice_stage};
 ghost use Rattle.copy_frames.specs.Contents.{copy_both_response};
-ghost use Rattle.publisher_desk.specs.Lending.{IsNext};
+ghost use Rattle.publisher_desk.specs.Lending.{IsNext, IsStepOf};
+ghost use Rattle.publisher_desk.specs.Viewers.{SeesMore, log_seen};
 ghost use Rattle.senders.specs.Flushing.{Flushes};
-ghost use Rattle.senders.specs.Sending.{AreQuietFor, IsQuiet, StopsAs, TakesUp, TellsAs, started_telling};
+ghost use Rattle.senders.specs.Sending.{AreQuietFor, IsQuiet, StopsAs, TakesLogged, TakesUp, TellsAs, started_telling};
 ghost use Rattle.senders.specs.declared.sender_end.SenderEnd.TheVariants.{WriteFault};
 
 use crate::clock::clock;
@@ -16,7 +17,7 @@ use crate::gate::Gate;
 use crate::sender_end::SenderEnd;
 use crate::sink::Sink;
 use copy_both::{StreamStart, Taken, Voice};
-use publisher_desk::{Publisher, Publishing, SenderStep};
+use publisher_desk::{Publisher, Publishing, SenderStep, Viewer};
 use std::alloc::{AllocError, Global};
 use std::sync::{Arc, Wait};
 use std::time::Clock;
@@ -24,6 +25,26 @@ use tables_log::{Commit, SlotNumber};
 
 /// If this number of bytes wait, they are written before a further commit is taken.
 const BATCH: usize = 65_536;
+
+/// What the sender of the slot does now, if there is something to do, fewer than `BATCH` bytes wait, and they are not due.
+fn step_if<P: Publishing, R: Wait>(
+    rt: &R,
+    publisher: &Publisher<P>,
+    viewer: &mut Viewer<P>,
+    slot: SlotNumber,
+    number: u64,
+    is_due: bool,
+    waiting: usize,
+) -> Option<SenderStep>
+    ensures next { IfSome result (IsNext P.checked.plan slot number) }
+    ensures logged { IfSome result (IsStepOf P.checked.plan slot (log_seen P.checked viewer.new.seen) number) }
+    ensures sees { SeesMore viewer.old viewer.new }
+{
+    if is_due || waiting == 0 || BATCH <= waiting {
+        return None;
+    }
+    publisher.step_now(rt, viewer, slot, number)
+}
 
 /// What the sender of the slot does next, after it has reported all commits before this number. What waits is written
 /// first, unless it is less than `BATCH`, is not due, and there is something to do now.
@@ -34,6 +55,7 @@ const BATCH: usize = 65_536;
 fn await_step<P: Publishing, W: Sink, R: Wait>(
     rt: &R,
     publisher: &Publisher<P>,
+    viewer: &mut Viewer<P>,
     slot: SlotNumber,
     number: u64,
     is_due: bool,
@@ -42,17 +64,17 @@ fn await_step<P: Publishing, W: Sink, R: Wait>(
 ) -> Result<SenderStep, Failed>
     ensures flushes { Flushes (W.taken writer.old) (W.taken writer.new) voice.old voice.new }
     ensures next { IfOk result (IsNext P.checked.plan slot number) }
+    ensures logged { IfOk result (IsStepOf P.checked.plan slot (log_seen P.checked viewer.new.seen) number) }
+    ensures sees { SeesMore viewer.old viewer.new }
     ensures failed { MatchResult result (λ step. W.has_failed writer.new ≡ W.has_failed writer.old)
         (λ failed. W.has_failed writer.new ≡ true) }
 {
     let waiting = voice.output().len();
-    if !is_due && 0 < waiting && waiting < BATCH {
-        if let Some(step) = publisher.step_now(rt, slot, number) {
-            return Ok(step);
-        }
+    if let Some(step) = step_if(rt, publisher, viewer, slot, number, is_due, waiting) {
+        return Ok(step);
     }
     flush(voice, writer)?;
-    Ok(publisher.next_step(rt, slot, number))
+    Ok(publisher.next_step(rt, viewer, slot, number))
 }
 
 /// Takes these commits, of which the subscriber gets nothing.
@@ -91,6 +113,7 @@ fn pass_over(
 fn tell_all<P: Publishing, W: Sink, G: Gate, R: Wait + Clock>(
     rt: &R,
     publisher: &Publisher<P>,
+    viewer: &mut Viewer<P>,
     started: StreamStart,
     voice: &mut Voice,
     writer: &mut W,
@@ -101,6 +124,8 @@ fn tell_all<P: Publishing, W: Sink, G: Gate, R: Wait + Clock>(
         (map (λ commit. arc_value commit) result.0.items) voice.new
         (started_telling P.checked started.0 started.1 copy_both_response) }
     ensures failed { result.1 ≡ WriteFault → W.has_failed writer.new ≡ true }
+    ensures logged { TakesLogged P.checked viewer.old viewer.new
+        (map (λ commit. arc_value commit) result.0.items) }
 {
     let mut taken = Vec::new(publisher.allocator());
     let mut skips = 0u32;
@@ -113,7 +138,16 @@ fn tell_all<P: Publishing, W: Sink, G: Gate, R: Wait + Clock>(
         }
         // (commits for other subscribers may come all the time, and must not hold back what waits)
         let is_due = skips > 1;
-        let Ok(step) = await_step(rt, publisher, started.slot, number, is_due, voice, writer) else {
+        let Ok(step) = await_step(
+            rt,
+            publisher,
+            viewer,
+            started.slot,
+            number,
+            is_due,
+            voice,
+            writer,
+        ) else {
             return (taken, SenderEnd::WriteFault);
         };
         match step {
@@ -152,12 +186,13 @@ fn tell_all<P: Publishing, W: Sink, G: Gate, R: Wait + Clock>(
 /// encoded and passes the gate without it. Commits of which the subscriber gets nothing are taken several at a time,
 /// and nothing of them is encoded. What several commits appended is written at once: when there is nothing to do now,
 /// when 64 KiB or more wait, after two skips in a row, and at the end. Returns which commits were taken, and why it
-/// stopped.
+/// stopped. The viewer has then seen the log with these commits.
 ///
 /// PostgreSQL 15, 55.4. Streaming Replication Protocol.
 pub(crate) fn send_all<P: Publishing, W: Sink, G: Gate, R: Wait + Clock>(
     rt: &R,
     publisher: &Publisher<P>,
+    viewer: &mut Viewer<P>,
     started: StreamStart,
     voice: &mut Voice,
     writer: &mut W,
@@ -168,8 +203,10 @@ pub(crate) fn send_all<P: Publishing, W: Sink, G: Gate, R: Wait + Clock>(
         (map (λ commit. arc_value commit) result.0.items) voice.new
         (started_telling P.checked started.0 started.1 copy_both_response) }
     ensures failed { result.1 ≡ WriteFault → W.has_failed writer.new ≡ true }
+    ensures logged { TakesLogged P.checked viewer.old viewer.new
+        (map (λ commit. arc_value commit) result.0.items) }
 {
-    let (taken, stop) = tell_all(rt, publisher, started, voice, writer, gate);
+    let (taken, stop) = tell_all(rt, publisher, viewer, started, voice, writer, gate);
     match stop {
         SenderEnd::WriteFault => return (taken, stop),
         SenderEnd::ConnectionEnded | SenderEnd::Finished | SenderEnd::OutOfMemory => {}

@@ -1,21 +1,112 @@
 //! Results of connections.
 
+ghost use Rattle.std.specs.Prelude.{◌≡◌, map};
+ghost use Rattle.std.specs.Arc.{arc_value};
+
 use crate::end::End;
+use crate::outcome::Outcome;
+use publisher_desk::{Closing, Publishing, Viewer};
 use std::alloc::Global;
+use std::marker::Model;
 use std::sync::Arc;
 use tables_log::{Commit, SlotNumber};
 
-/// The result of a connection that was served.
-#[derive(Debug, Drop)]
-pub struct Served {
+/// The result of a connection that was served. The commits that were taken for it are those of its publisher's log from
+/// its start on, and it had the slot of its stream until it released it. Contracts see it as `ServedOf`.
+#[derive(Drop)]
+pub struct Served<P: Publishing> {
+    outcome: Outcome,
+    is_requested: bool,
+    number: u64,
+    /// What the connection has seen of its publisher, for proofs.
+    viewer: Viewer<P>,
+}
+
+impl<P: Publishing> Model for Served<P> {
+    ghost use Rattle.senders.specs.Results.{IsWitnessed, ServedOf, served_of};
+
+    ghost Value = { ServedOf };
+
+    ghost view = { λ s. served_of s.outcome s.is_requested s.number s.viewer };
+
+    ghost invariant = { λ s. IsWitnessed P.checked (served_of s.outcome s.is_requested s.number s.viewer) };
+}
+
+impl<P: Publishing> Served<P> {
+    ghost use Rattle.std.specs.Prelude.{◌≡◌, map};
+    ghost use Rattle.std.specs.Arc.{arc_value};
+    ghost use Rattle.publisher_desk.specs.Viewers.{IsSeenIn};
+    ghost use Rattle.senders.specs.Results.{IsWitnessed, served_of};
+
+    /// The result of a connection that has released its slot, if it had one, with the number of its acquisition, or 0.
+    pub(crate) fn new(
+        outcome: Outcome,
+        is_requested: bool,
+        number: u64,
+        viewer: Viewer<P>,
+    ) -> Served<P>
+        requires { IsWitnessed P.checked (served_of outcome is_requested number viewer) }
+        ensures { result ≡ served_of outcome is_requested number viewer }
+    {
+        Served {
+            outcome,
+            is_requested,
+            number,
+            viewer,
+        }
+    }
+
     /// The slot whose stream it started, by the number of its subscription; `None` if it started none.
-    pub slot: Option<SlotNumber>,
+    pub fn slot(&self) -> Option<SlotNumber>
+        ensures { result ≡ self.now.slot }
+    {
+        self.outcome.slot
+    }
+
     /// Where in the log the stream started, in bytes; `None` if it started none.
-    pub start: Option<u64>,
+    pub fn start(&self) -> Option<u64>
+        ensures { result ≡ self.now.start }
+    {
+        self.outcome.start
+    }
+
     /// Whether its client requested that position, which is after what was confirmed for the slot. If not, the stream
     /// started where the slot was confirmed, or no stream was started.
-    pub is_requested: bool,
-    /// The commits that were taken for it, in order.
-    pub taken: Vec<Arc<Commit, Global>>,
-    pub end: End,
+    pub fn is_requested(&self) -> bool
+        ensures { result ≡ self.now.is_requested }
+    {
+        self.is_requested
+    }
+
+    /// The commits that were taken for it, in order: those of its publisher's log from its start on.
+    pub fn taken(&self) -> &[Arc<Commit, Global>]
+        ensures shows { map (λ commit. arc_value commit) result.now ≡ self.now.taken }
+        ensures witnessed { IsWitnessed P.checked self.now }
+    {
+        self.outcome.taken.as_slice()
+    }
+
+    /// Why it ended.
+    pub fn end(&self) -> End
+        ensures { result ≡ self.now.end }
+    {
+        self.outcome.end
+    }
+
+    /// The number of the acquisition of its slot among all of its publisher, from 1; 0 if it started no stream.
+    pub fn number(&self) -> u64
+        ensures { result ≡ self.now.number }
+    {
+        self.number
+    }
+
+    /// Establishes that what the connection has seen is the beginning of the log and of the events of the slots.
+    pub(crate) fn check(&mut self, closing: &mut Closing<P>)
+        ensures seen { IsSeenIn closing.old self.old.viewer }
+        ensures witnessed { IsWitnessed P.checked self.old }
+        ensures same { self.new ≡ self.old }
+        ensures closing { closing.new ≡ closing.old }
+    {
+        closing.check(&mut self.viewer);
+    }
 }

@@ -1,10 +1,13 @@
 //! How a connection is served.
 
-ghost use Rattle.std.specs.Prelude.{◌≡◌, ◌<◌, [], length, map, None, Some};
+ghost use Rattle.std.specs.Prelude.{◌≡◌, ◌<◌, ℕ, [], length, map, None, Some};
 ghost use Rattle.std.specs.Arc.{arc_value};
 ghost use Rattle.senders.specs.Causes as spec;
 ghost use Rattle.senders.specs.Causes.{chosen, end_by, unopened_by};
-ghost use Rattle.senders.specs.Running.{Concludes, IsWithout, RunsOn, Streams};
+ghost use Rattle.publisher_desk.specs.Viewers.{Holds, new_viewer};
+ghost use Rattle.senders.specs.Results.{IsWitnessed, commits_of};
+ghost use Rattle.senders.specs.Running.{Concludes, IsWithout, ReleasesIf, RunsOn, ServesOut, Streams};
+ghost use Rattle.senders.specs.Sending.{TakesLogged};
 ghost use Rattle.senders.specs.Speaking.{IsQuietAt};
 ghost use Rattle.senders.specs.Serving.{IsServed};
 
@@ -14,20 +17,21 @@ use crate::gate::Gate;
 use crate::listener::Listener;
 use crate::listener_end::ListenerEnd;
 use crate::listening::begin;
+use crate::outcome::Outcome;
 use crate::refusing::{answer, cause_of};
 use crate::running::{Sent, run_both, send, starts_threads};
 use crate::sender_end::SenderEnd;
 use crate::served::Served;
 use crate::sink::Sink;
-use crate::slot_tasks::release_slot;
 use crate::source::Source;
 use crate::speaking::{open, say_last};
 use copy_both::{LinkFault, StreamStart, Voice};
-use publisher_desk::{Publisher, Publishing};
+use publisher_desk::{Publisher, Publishing, Viewer};
 use std::alloc::Global;
 use std::sync::Wait;
 use std::thread::Threads;
 use std::time::Clock;
+use tables_log::SlotNumber;
 
 /// Why a connection ended, if its sender ended it.
 fn end_of(stop: SenderEnd) -> End
@@ -82,30 +86,28 @@ fn reported_cause(stop: SenderEnd, is_first: bool, why: Option<ListenerEnd>) -> 
     }
 }
 
-/// The result of a connection on which no stream was started.
-fn unstarted(alloc: Global, end: End) -> Served
+/// What came of a connection on which no stream was started.
+fn unstarted(alloc: Global, end: End) -> Outcome
     ensures slot { result.slot ≡ None }
     ensures start { result.start ≡ None }
     ensures taken { result.taken.items ≡ [] }
     ensures end { result.end ≡ end }
 {
-    Served {
+    Outcome {
         slot: None,
         start: None,
-        is_requested: false,
         taken: Vec::new(alloc),
         end,
     }
 }
 
-/// The result of a connection for which no commit was taken.
-fn without_commits(alloc: Global, started: StreamStart, end: End) -> Served
+/// What came of a connection for which no commit was taken.
+fn without_commits(alloc: Global, started: StreamStart, end: End) -> Outcome
     ensures { IsWithout started.0 started.1 end result }
 {
-    Served {
+    Outcome {
         slot: Some(started.slot),
         start: Some(started.start.to_u64()),
-        is_requested: false,
         taken: Vec::new(alloc),
         end,
     }
@@ -122,25 +124,24 @@ fn unopened_end(stop: SenderEnd, why: ListenerEnd) -> End
     }
 }
 
-/// The result of a connection whose sender stopped, and whose listener ended for this reason, if it did. If its
-/// client sent CopyDone, it is answered.
+/// What came of a connection whose sender stopped, and whose listener ended for this reason, if it did. If its client
+/// sent CopyDone, it is answered.
 fn conclude<W: Sink>(
     started: StreamStart,
     voice: &mut Voice,
     sent: Sent,
     why: Option<ListenerEnd>,
     writer: &mut W,
-) -> Served
+) -> Outcome
     requires { IsQuietAt sent.stop voice.old }
     ensures { Concludes started.0 started.1 sent why (W.taken writer.old) (W.taken writer.new)
         (W.has_failed writer.old) (W.has_failed writer.new) result }
 {
     let stop = say_last(voice, sent.stop, why, writer);
     let end = reported_cause(stop, sent.is_first, why);
-    Served {
+    Outcome {
         slot: Some(started.slot),
         start: Some(started.start.to_u64()),
-        is_requested: false,
         taken: sent.taken,
         end,
     }
@@ -154,19 +155,22 @@ fn serve_ended<P: Publishing, W: Sink, G: Gate, R: Wait + Clock>(
     why: ListenerEnd,
     writer: &mut W,
     gate: &G,
-) -> Served
-    ensures { Streams P.checked started.0 started.1 (W.taken writer.old) (W.taken writer.new)
-        (W.has_failed writer.new) (Some why) result }
+) -> (Outcome, Viewer<P>)
+    ensures streams { Streams P.checked started.0 started.1 (W.taken writer.old) (W.taken writer.new)
+        (W.has_failed writer.new) (Some why) result.0 }
+    ensures logged { TakesLogged P.checked new_viewer result.1 (commits_of result.0) }
 {
     let mut voice = match open(publisher, started, writer) {
         Ok(voice) => voice,
         Err(stop) => {
             let end = unopened_end(stop, why);
-            return without_commits(publisher.allocator(), started, end);
+            let outcome = without_commits(publisher.allocator(), started, end);
+            return (outcome, Viewer::new());
         }
     };
-    let sent = send(rt, publisher, started, &mut voice, writer, gate);
-    conclude(started, &mut voice, sent, Some(why), writer)
+    let (sent, viewer) = send(rt, publisher, started, &mut voice, writer, gate);
+    let outcome = conclude(started, &mut voice, sent, Some(why), writer);
+    (outcome, viewer)
 }
 
 /// Serves a connection whose stream has started.
@@ -179,32 +183,85 @@ fn serve_started<
 >(
     rt: &R,
     publisher: &Publisher<P>,
+    viewer: &mut Viewer<P>,
     started: StreamStart,
     listener: &mut Listener,
     reader: &mut S,
     writer: &mut W,
     gate: &G,
-) -> Served
+) -> (Outcome, Viewer<P>)
     requires { 0 < length listener.old.piece.items }
-    ensures { RunsOn P.checked started.0 started.1 (S.left reader.old) (S.left reader.new) (S.has_failed reader.new)
+    ensures runs { RunsOn P.checked viewer.old viewer.new started.0 started.1 (S.left reader.old) (S.left reader.new) (S.has_failed reader.new)
         (S.has_ended reader.new) (W.taken writer.old) (W.taken writer.new) (W.has_failed writer.new)
-        listener.old listener.new result }
+        listener.old listener.new result.0 }
+    ensures logged { TakesLogged P.checked new_viewer result.1 (commits_of result.0) }
 {
     let mut voice = match open(publisher, started, writer) {
         Ok(voice) => voice,
-        Err(stop) => return without_commits(publisher.allocator(), started, end_of(stop)),
+        Err(stop) => {
+            let outcome = without_commits(publisher.allocator(), started, end_of(stop));
+            return (outcome, Viewer::new());
+        }
     };
     if !starts_threads(rt) {
-        return without_commits(
-            publisher.allocator(),
-            started,
-            end_of(SenderEnd::OutOfMemory),
-        );
+        let end = end_of(SenderEnd::OutOfMemory);
+        let outcome = without_commits(publisher.allocator(), started, end);
+        return (outcome, Viewer::new());
     }
-    let (sent, why) = run_both(
-        rt, publisher, started, &mut voice, listener, reader, writer, gate,
+    let (sent, sender, why) = run_both(
+        rt, publisher, viewer, started, &mut voice, listener, reader, writer, gate,
     );
-    conclude(started, &mut voice, sent, why, writer)
+    let outcome = conclude(started, &mut voice, sent, why, writer);
+    (outcome, sender)
+}
+
+/// What came of a connection, and what its sender has then seen.
+fn outcome_of<
+    P: Publishing + Sync,
+    S: Source + Send,
+    W: Sink + Send,
+    G: Gate + Sync,
+    R: Threads + Wait + Clock + Sync,
+>(
+    rt: &R,
+    publisher: &Publisher<P>,
+    viewer: &mut Viewer<P>,
+    listener: &mut Listener,
+    reader: &mut S,
+    writer: &mut W,
+    gate: &G,
+) -> (Outcome, Viewer<P>)
+    requires { 0 < length listener.old.piece.items }
+    ensures { ServesOut P.checked viewer.old viewer.new (S.left reader.old) (S.left reader.new)
+        (S.has_failed reader.new) (S.has_ended reader.new) (W.taken writer.old) (W.taken writer.new)
+        (W.has_failed writer.new) listener.old listener.new result.1 result.0 }
+{
+    match begin(rt, publisher, viewer, listener, reader) {
+        Beginning::Refused(why) => {
+            answer(listener, why, writer);
+            let outcome = unstarted(publisher.allocator(), cause_of(why));
+            (outcome, Viewer::new())
+        }
+        Beginning::Ended(started, why) => serve_ended(rt, publisher, started, why, writer, gate),
+        Beginning::Started(started) => serve_started(
+            rt, publisher, viewer, started, listener, reader, writer, gate,
+        ),
+    }
+}
+
+/// Releases the slot that the connection has, if it has one.
+fn release_if<P: Publishing, R: Wait>(
+    rt: &R,
+    publisher: &Publisher<P>,
+    viewer: &mut Viewer<P>,
+    slot: Option<SlotNumber>,
+)
+    requires { (number : ℕ) → slot ≡ Some number → Holds viewer.old.held number }
+    ensures { ReleasesIf slot viewer.old viewer.new }
+{
+    if let Some(slot) = slot {
+        publisher.release(rt, viewer, slot);
+    }
 }
 
 /// Serves one connection to its end, and returns its result. Its client requests the stream of a slot by a Query.
@@ -222,34 +279,28 @@ pub fn serve<
     W: Sink + Send,
     G: Gate + Sync,
     R: Threads + Wait + Clock + Sync,
->(rt: &R, publisher: &Publisher<P>, reader: &mut S, writer: &mut W, gate: &G) -> Served
-    ensures { IsServed P.checked (S.left reader.old) (S.left reader.new) (S.has_failed reader.new)
+>(rt: &R, publisher: &Publisher<P>, reader: &mut S, writer: &mut W, gate: &G) -> Served<P>
+    ensures served { IsServed P.checked (S.left reader.old) (S.left reader.new) (S.has_failed reader.new)
         (S.has_ended reader.new) (W.taken writer.old) (W.taken writer.new) (W.has_failed writer.new) result }
+    ensures witnessed { IsWitnessed P.checked result }
 {
     let alloc = publisher.allocator();
     let Ok(mut listener) = Listener::new(alloc, publisher.checked()) else {
-        return unstarted(alloc, End::Link(LinkFault::OutOfMemory));
+        let outcome = unstarted(alloc, End::Link(LinkFault::OutOfMemory));
+        return Served::new(outcome, false, 0, Viewer::new());
     };
-    let served = match begin(rt, publisher, &mut listener, reader) {
-        Beginning::Refused(why) => {
-            answer(&listener, why, writer);
-            unstarted(alloc, cause_of(why))
-        }
-        Beginning::Ended(started, why) => serve_ended(rt, publisher, started, why, writer, gate),
-        Beginning::Started(started) => serve_started(
-            rt,
-            publisher,
-            started,
-            &mut listener,
-            reader,
-            writer,
-            gate,
-        ),
-    };
-    let is_requested = listener.is_requested();
-    release_slot(rt, publisher, listener);
-    Served {
-        is_requested,
-        ..served
-    }
+    let mut viewer = Viewer::new();
+    let (outcome, mut sender) = outcome_of(
+        rt,
+        publisher,
+        &mut viewer,
+        &mut listener,
+        reader,
+        writer,
+        gate,
+    );
+    publisher.compare(rt, &mut viewer, &mut sender);
+    release_if(rt, publisher, &mut viewer, outcome.slot);
+    viewer.is_accepted();
+    Served::new(outcome, listener.is_requested(), listener.number(), viewer)
 }

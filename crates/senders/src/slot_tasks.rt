@@ -1,6 +1,5 @@
-//! How connections end and release their slots.
+//! How connections end.
 
-use crate::listener::Listener;
 use publisher_desk::{ConnectionState, Publisher, Publishing, SlotTask};
 use std::sync::Wait;
 use tables_log::{Book, SlotNumber};
@@ -29,25 +28,6 @@ impl SlotTask for EndConnection {
     }
 }
 
-/// Releases the slot that a listener started, if it started one.
-struct ReleaseSlot {
-    listener: Option<Listener>,
-}
-
-impl SlotTask for ReleaseSlot {
-    ghost use Rattle.senders.specs.Releasing.{GivesBack};
-
-    type Answer = ();
-
-    ghost did = { λ before after old new connections left answer. GivesBack before.listener after.listener old new };
-
-    fn use_slots(&mut self, book: &mut Book, _connections: &mut [ConnectionState]) {
-        if let Some(listener) = self.listener.take() {
-            listener.lose(book);
-        }
-    }
-}
-
 /// Ends the connection of a slot, and returns whether it had not ended before.
 pub(crate) fn end_connection<P: Publishing, R: Wait>(
     rt: &R,
@@ -55,21 +35,4 @@ pub(crate) fn end_connection<P: Publishing, R: Wait>(
     slot: SlotNumber,
 ) -> bool {
     publisher.with_slots(rt, &mut EndConnection { slot })
-}
-
-/// Releases the slot that the listener started, if it started one.
-pub(crate) fn release_slot<P: Publishing, R: Wait>(
-    rt: &R,
-    publisher: &Publisher<P>,
-    listener: Listener,
-) {
-    let mut task = ReleaseSlot {
-        listener: Some(listener),
-    };
-    publisher.with_slots(rt, &mut task);
-    let ReleaseSlot { listener: left } = task;
-    match left {
-        None => {}
-        Some(_) => unreachable!(),
-    }
 }

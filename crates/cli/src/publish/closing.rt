@@ -49,7 +49,7 @@ pub(crate) fn close_session<'a, P: Publishing, W: Writer>(
     publisher: Publisher<P>,
     rest: Seats<P>,
     seat: Seat<P>,
-    served: Vec<Served>,
+    served: Vec<Served<P>>,
     writer: &mut W,
 ) -> Result<Status, Failure<'a>>
     requires parts { P.parts ≡ 1000 }

@@ -150,7 +150,7 @@ fn say_ports<'a, W: Writer>(
     callers: Option<u16>,
     writer: &mut W,
 ) -> Result<(), Failure<'a>>
-    ensures told { OnOk result (Appends (W.contents writer.old) (W.contents writer.new)
+    ensures written { OnOk result (Appends (W.contents writer.old) (W.contents writer.new)
         (text_of (first_lines port callers))) }
     ensures stopped { IfErr result (StopsText (text_of (first_lines port callers)) (W.contents writer.old)
         (W.contents writer.new)) }

@@ -40,11 +40,11 @@ fn end_line<P: Publishing, R: Clock>(
     publisher: &Publisher<P>,
     hall: &Hall,
     client: SocketAddr,
-    served: &Served,
+    served: &Served<P>,
 ) -> Result<String, AllocError> {
     let alloc = publisher.allocator();
     let sent = sent_on(publisher, served)?;
-    let reason = reason(served.end);
+    let reason = reason(served.end());
     match hall.log() {
         LogFormat::Text => end_text(alloc, sent.as_ref(), reason),
         LogFormat::Json => {
@@ -94,7 +94,7 @@ pub(crate) fn tell_end<P: Publishing, R: Clock + Eprint>(
     publisher: &Publisher<P>,
     hall: &Hall,
     client: SocketAddr,
-    served: &Served,
+    served: &Served<P>,
 ) {
     if let Ok(line) = end_line(rt, publisher, hall, client, served) {
         let _ = rt.eprint(line.as_str());

@@ -25,14 +25,17 @@ const SPARE: usize = 64;
 const PAUSE: u64 = 100;
 
 /// A place for clients, with the results of the connections that were served there.
-#[derive(Debug, Drop)]
-pub(crate) struct Berth {
-    pub(crate) served: Vec<Served>,
+#[derive(Drop)]
+pub(crate) struct Berth<P: Publishing> {
+    pub(crate) served: Vec<Served<P>>,
 }
 
 /// The places for the clients of this many subscriptions.
 #[tactic(auto, using(crate::proofs::Berths::served_more))]
-pub(crate) fn free_berths(alloc: Global, subscriptions: usize) -> Result<Vec<Berth>, AllocError>
+pub(crate) fn free_berths<P: Publishing>(
+    alloc: Global,
+    subscriptions: usize,
+) -> Result<Vec<Berth<P>>, AllocError>
     ensures { IfOk result (λ berths. spec.served_at berths.items ≡ []) }
 {
     let count = subscriptions.saturating_add(SPARE);
@@ -46,7 +49,7 @@ pub(crate) fn free_berths(alloc: Global, subscriptions: usize) -> Result<Vec<Ber
 }
 
 /// Adds the results of the connections of a place.
-fn add_served(all: &mut Vec<Served>, berth: Berth) -> Result<(), AllocError>
+fn add_served<P: Publishing>(all: &mut Vec<Served<P>>, berth: Berth<P>) -> Result<(), AllocError>
     ensures { OnOk result (all.new.items ≡ all.old.items ++ berth.served.items) }
 {
     for served in berth.served {
@@ -56,7 +59,10 @@ fn add_served(all: &mut Vec<Served>, berth: Berth) -> Result<(), AllocError>
 }
 
 /// The results of the connections of all places.
-pub(crate) fn served_at(alloc: Global, berths: Vec<Berth>) -> Result<Vec<Served>, AllocError>
+pub(crate) fn served_at<P: Publishing>(
+    alloc: Global,
+    berths: Vec<Berth<P>>,
+) -> Result<Vec<Served<P>>, AllocError>
     ensures { IfOk result (λ served. served.items ≡ spec.served_at berths.items) }
 {
     let mut all = Vec::new(alloc);
@@ -72,7 +78,7 @@ fn serve_stream<P: Publishing + Sync, R: Threads + Wait + Clock + Sync>(
     publisher: &Publisher<P>,
     hall: &Hall,
     stream: &TcpStream,
-) -> Served
+) -> Served<P>
     ensures { WasServed P.checked result }
 {
     let writes = Writes::new();
@@ -127,7 +133,7 @@ fn attend<P: Publishing + Sync, R: Threads + Wait + Clock + Eprint + Sync>(
     publisher: &Publisher<P>,
     hall: &Hall,
     listener: &TcpListener,
-    berth: &mut Berth,
+    berth: &mut Berth<P>,
 )
     ensures { StayServed P.checked berth.old.served.items berth.new.served.items }
 {
@@ -159,7 +165,7 @@ fn attend_berths<P: Publishing + Sync, R: Threads + Wait + Clock + Eprint + Sync
     publisher: &Publisher<P>,
     hall: &Hall,
     listener: &TcpListener,
-    berths: &mut [Berth],
+    berths: &mut [Berth<P>],
 )
     ensures { StayServed P.checked (spec.served_at berths.old) (spec.served_at berths.new) }
 {
@@ -171,7 +177,7 @@ fn attend_berths<P: Publishing + Sync, R: Threads + Wait + Clock + Eprint + Sync
         rt,
         berths,
         count,
-        &|_, berth: &mut Berth|
+        &|_, berth: &mut Berth<P>|
             ensures { StayServed P.checked berth.old.served.items berth.new.served.items }
         { attend(rt, publisher, hall, listener, berth) },
     );
@@ -183,7 +189,7 @@ pub(crate) fn attend_all<P: Publishing + Sync, R: Threads + Wait + Clock + Eprin
     publisher: &Publisher<P>,
     hall: &Hall,
     listener: &TcpListener,
-    berths: &mut [Berth],
+    berths: &mut [Berth<P>],
 )
     ensures { StayServed P.checked (spec.served_at berths.old) (spec.served_at berths.new) }
 {

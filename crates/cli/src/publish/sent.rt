@@ -21,8 +21,8 @@ fn position_text(alloc: Global, position: Lsn) -> Result<String, AllocError> {
 }
 
 /// The position after the last commit that was taken for a connection, or that of its start.
-fn reached(served: &Served, start: Lsn) -> Lsn {
-    match served.taken.last() {
+fn reached<P: Publishing>(served: &Served<P>, start: Lsn) -> Lsn {
+    match served.taken().last() {
         None => start,
         Some(commit) => Lsn::end_of_commit(commit.number()),
     }
@@ -31,9 +31,9 @@ fn reached(served: &Served, start: Lsn) -> Lsn {
 /// What a connection was sent, if it started a stream.
 pub(crate) fn sent_on<P: Publishing>(
     publisher: &Publisher<P>,
-    served: &Served,
+    served: &Served<P>,
 ) -> Result<Option<Sent>, AllocError> {
-    let (Some(slot), Some(start)) = (served.slot, served.start) else {
+    let (Some(slot), Some(start)) = (served.slot(), served.start()) else {
         return Ok(None);
     };
     let start = Lsn::new(start);

@@ -7,6 +7,7 @@ ghost use Rattle.commands.specs.Output.{ended, text_of};
 ghost use Rattle.shard_world.specs.ViewContents.{AllAt, FoundIn};
 ghost use Rattle.tables_log.specs.BookView.{book_slots};
 ghost use Rattle.tables_log.specs.Committing.{ChangesSlots};
+ghost use Rattle.tables_log.specs.Slots.{KeepsUse};
 ghost use Rattle.publisher_desk.specs.Sights.{StartsWith};
 ghost use Rattle.cli.specs.Views as spec;
 ghost use Rattle.cli.specs.Views.{IsViewText, progress_lines};
@@ -47,7 +48,8 @@ struct Viewing {
 
 /// Whether a stream has the slot. To find out, one is started; if none had it, the slot is released again.
 fn is_taken(book: &mut Book, slot: SlotNumber) -> bool
-    ensures { ChangesSlots book.old book.new (book_slots book.new) }
+    ensures slots { ChangesSlots book.old book.new (book_slots book.new) }
+    ensures uses { KeepsUse (book_slots book.old) (book_slots book.new) }
 {
     match book.start(slot, 0) {
         Ok(_) => {
@@ -74,6 +76,7 @@ fn progress_in(
     subscriptions: usize,
 ) -> Result<Vec<Progress>, AllocError>
     ensures slots { ChangesSlots book.old book.new (book_slots book.new) }
+    ensures uses { KeepsUse (book_slots book.old) (book_slots book.new) }
     ensures count { IfOk result (λ progress. length progress.items ≡ subscriptions) }
 {
     let mut progress = Vec::new(alloc);

@@ -1,5 +1,5 @@
-use Rattle.std.proofs.Common.{◌≡◌, ℕ, List, ap, subst, sym}
-use Rattle.std.specs.Prelude.{IfErr, OnOk, Option, None, Some}
+use Rattle.std.proofs.Common.{ℕ, ap, subst, sym}
+use Rattle.std.specs.Prelude.{IfErr, OnOk, Option}
 use Rattle.cli.proofs.Callers.{answered_by, cut_off_by}
 use Rattle.cli.specs.Incoming.{coming}
 use Rattle.cli.specs.Published.{callers_at}

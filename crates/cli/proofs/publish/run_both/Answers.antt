@@ -23,7 +23,11 @@ join_mut-answered-requires-send-F g c κs within =
               (tt, hall_sync.shared x.2.now x.2.ref_ptr.0 x.2.ref_ptr.1 _),
               (
                 (tt, listener_sync.shared x.3.now x.3.ref_ptr.0 x.3.ref_ptr.1 []),
-                ((mut_slice_send (of_param 1) [] Be.the_row BeS.the_send).owned x.4 [], tt),
+                (
+                  (mut_slice_send (of_param 1) [] (Be.the_row (param 0 g.row.P) g.P.Publishing g.P.Ledger)
+                      (BeS.the_send (param 0 g.row.P) g.P.Publishing g.P.Ledger)).owned x.4 [],
+                  tt,
+                ),
               ),
             ),
           ),

@@ -21,7 +21,11 @@ join_mut-committed-requires-send-F g c κs within =
             (tt, publisher.shared x.1.now x.1.ref_ptr.0 x.1.ref_ptr.1 _),
             (
               (tt, listener_sync.shared x.2.now x.2.ref_ptr.0 x.2.ref_ptr.1 []),
-              ((mut_slice_send (of_param 1) [] Pl.the_row PlS.the_send).owned x.3 [], tt),
+              (
+                (mut_slice_send (of_param 1) [] (Pl.the_row (param 0 g.row.P) g.P.Publishing g.P.Ledger)
+                    (PlS.the_send (param 0 g.row.P) g.P.Publishing g.P.Ledger)).owned x.3 [],
+                tt,
+              ),
             ),
           ),
         ),

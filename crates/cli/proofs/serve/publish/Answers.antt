@@ -2,7 +2,7 @@ use Rattle.std.proofs.Common.{◌≡◌, ◌∙◌, All, ℕ, List, ap, length, 
 use Rattle.std.proofs.lemmas.List.{length-map}
 use Rattle.std.specs.Option.{unwrap_or}
 use Rattle.publisher_desk.specs.Seats.{SeatOf, empty_seat}
-use Rattle.senders.specs.declared.served.Served.{Served}
+use Rattle.senders.specs.Results.{ServedOf}
 use Rattle.commands.specs.declared.failure.Failure.TheVariants as f
 use Rattle.cli.proofs.LastLines.{all_served}
 use Rattle.cli.proofs.Telling.{stopped_returned, tells, unheard_returned}
@@ -24,13 +24,13 @@ pub returns-in_err-served : goal.returns-in_err-served
 returns-in_err-served g c =
     stopped_returned (service_of c.args.service g.P.Publishing.checked (map list_view c.args.lists.items)) (g.W.Writer.contents c.args.writer.now)
     (g.W.Writer.contents c.listen.new.writer) c.in_err-served.field-0.0 c.from_residual-in_err-served.result
-    c.in_ok-listener.ensures.told c.in_err-served.ensures.stopped c.from_residual-in_err-served.ensures.1
+    c.in_ok-listener.ensures.written c.in_err-served.ensures.stopped c.from_residual-in_err-served.ensures.1
 
 pub returns-in_err-committed : goal.returns-in_err-committed
 returns-in_err-committed g c =
     stopped_returned (service_of c.args.service g.P.Publishing.checked (map list_view c.args.lists.items)) (g.W.Writer.contents c.args.writer.now)
     (g.W.Writer.contents c.listen.new.writer) f.OutOfMemory c.from_residual-in_err-committed.result
-    c.in_ok-listener.ensures.told tt c.from_residual-in_err-committed.ensures.1
+    c.in_ok-listener.ensures.written tt c.from_residual-in_err-committed.ensures.1
 
 pub returns : goal.returns
 returns g c =
@@ -48,13 +48,13 @@ returns g c =
       committed = subst (λ (l : ℕ). AreCommitted checked l 1 lists empty_seat seat) (sym c.requires.limit)
           (subst (λ (s : SeatOf). AreCommitted checked g.P.Publishing.limit 1 lists s seat) c.in-Some.ensures.new
           c.in_ok-committed.ensures.committed);
-      many = sym (length-map served (λ (s : Served). Ended s)) ∙ (ap length all ∙ (c.run_both-committed.ensures.same
+      many = sym (length-map served (λ (s : ServedOf). Ended s)) ∙ (ap length all ∙ (c.run_both-committed.ensures.same
           ∙ (c.in_ok-places.ensures ∙ count)));
-      each = all_served checked served (subst (λ (p : List ConnectionPlace). All (IsFilled checked) p) (sym all)
+      each = all_served checked served (subst (λ (p : List (ConnectionPlace _)). All (IsFilled checked) p) (sym all)
           c.run_both-committed.ensures.served);
       memory = c.in_ok-served.ensures.memory;
     } in
     tells service (g.W.Writer.contents c.args.writer.now) (g.W.Writer.contents c.listen.new.writer)
     (g.W.Writer.contents c.close_and_tell.new.writer) c.close_and_tell.result
-    c.in_ok-listener.ensures.told
+    c.in_ok-listener.ensures.written
     (c.close_and_tell.ensures service (record { checked_is = refl; limit_is = c.requires.limit }) over)

@@ -1,4 +1,4 @@
-use Rattle.std.proofs.Common.{Bool, List, ◌∷◌, sym, ◌∙◌, ap, rules}
+use Rattle.std.proofs.Common.{Bool, ◌∷◌, sym, ◌∙◌, ap, rules}
 use Rattle.shard_checker.specs.CheckedView.{setting_in}
 use Rattle.publisher_desk.specs.Seats.{SeatOf}
 use Rattle.publisher_desk.specs.Sights.{left, sight_of, view_of}

@@ -1,23 +1,23 @@
-use Rattle.std.proofs.Common.{ℕ, rules, subst, sym}
+use Rattle.std.proofs.Common.{rules}
 use Rattle.std.proofs.lemmas.Bool.{MatchBool-at_true, MatchBool-at_false}
 use Rattle.senders.specs.CloseCauses.{IsCloseCause}
-use Rattle.senders.specs.Reached.{AreReached}
 use Rattle.senders.proofs.ReplayLemmas.{passes_on}
-use Rattle.senders.proofs.ClosingLemmas.{unlike_compared, wrong_compared, taken_compared, late_compared, closed_compared}
+use Rattle.senders.proofs.ClosingLemmas.{unlike_compared, wrong_compared, taken_compared, start_compared, closed_compared}
 use Rattle.senders.proofs.closing.compare.Goals as goal
 
 pub returns-in_err-receipts-clause-err : goal.returns-in_err-receipts-clause-err
 returns-in_err-receipts-clause-err g c =
-    passes_on (IsCloseCause c.args.book.now c.args.seats.now c.args.served.now) c.from_residual.result
-    c.in_err-receipts.field-0.0 (search rules) (c.in_err-receipts.ensures.err c.args.served.now)
+    passes_on (IsCloseCause c.args.book.now c.args.acquired c.args.seats.now c.args.served.now) c.from_residual.result
+    c.in_err-receipts.field-0.0 (search rules) (c.in_err-receipts.ensures.err c.args.acquired c.args.served.now)
 
 pub returns-in_err-replay-clause-err : goal.returns-in_err-replay-clause-err
 returns-in_err-replay-clause-err g c =
-    passes_on (IsCloseCause c.args.book.now c.args.seats.now c.args.served.now) c.from_residual-in_err-replay.result
-    c.in_err-replay.field-0.0 (search rules)
+    passes_on (IsCloseCause c.args.book.now c.args.acquired c.args.seats.now c.args.served.now)
+    c.from_residual-in_err-replay.result c.in_err-replay.field-0.0 (search rules)
     (unlike_compared c.args.book.now c.replay.new.fresh c.args.seats.now c.in_ok-receipts.receipts.items
     c.as_slice.result.now c.as_slice.ensures.value c.in_ok-receipts.ensures.ok
-    c.in_ok-receipts.ensures.long c.args.served.now c.in_err-replay.field-0.0 c.in_err-replay.ensures.err)
+    c.in_ok-receipts.ensures.long c.args.acquired c.args.served.now c.in_err-replay.field-0.0
+    c.in_err-replay.ensures.err)
 
 pub returns-then-not-branch-clause-err : goal.returns-then-not-branch-clause-err
 returns-then-not-branch-clause-err g c =
@@ -28,27 +28,26 @@ returns-then-not-branch-clause-err g c =
     c.in_ok-replay.ensures.ok c.in_ok-replay.ensures.all
     (MatchBool-at_false _ _ c.if-not-branch.true c.in_ok-replay.ensures.right)
 
-pub returns-then-not-are_taken-clause-err : goal.returns-then-not-are_taken-clause-err
-returns-then-not-are_taken-clause-err g c =
+pub returns-then-not-are_whole-clause-err : goal.returns-then-not-are_whole-clause-err
+returns-then-not-are_whole-clause-err g c =
     taken_compared c.args.book.now c.replay.new.fresh c.args.seats.now c.in_ok-receipts.receipts.items
     c.as_slice.result.now c.as_slice.ensures.value c.in_ok-receipts.ensures.ok c.in_ok-receipts.ensures.long
     c.in_ok-readings.readings.items c.sort_readings.new.readings.items c.as_slice-2.result.now
     c.in_ok-readings.ensures c.sort_readings.ensures.all c.as_slice-2.ensures.value
     c.in_ok-replay.ensures.ok c.in_ok-replay.ensures.all
-    (MatchBool-at_true _ _ c.if-not-branch.false c.in_ok-replay.ensures.right) c.args.served.now
-    c.if-not-are_taken.ensures
+    (MatchBool-at_true _ _ c.if-not-branch.false c.in_ok-replay.ensures.right) c.args.acquired c.args.served.now
+    c.if-not-are_whole.ensures
 
-pub returns-then-not-reached-clause-err : goal.returns-then-not-reached-clause-err
-returns-then-not-reached-clause-err g c =
-    late_compared c.args.book.now c.replay.new.fresh c.args.seats.now c.in_ok-receipts.receipts.items
+pub returns-clause-err : goal.returns-clause-err
+returns-clause-err g c =
+    start_compared c.args.book.now c.replay.new.fresh c.args.seats.now c.in_ok-receipts.receipts.items
     c.as_slice.result.now c.as_slice.ensures.value c.in_ok-receipts.ensures.ok c.in_ok-receipts.ensures.long
     c.in_ok-readings.readings.items c.sort_readings.new.readings.items c.as_slice-2.result.now
     c.in_ok-readings.ensures c.sort_readings.ensures.all c.as_slice-2.ensures.value
     c.in_ok-replay.ensures.ok c.in_ok-replay.ensures.all
-    (MatchBool-at_true _ _ c.if-not-branch.false c.in_ok-replay.ensures.right) c.args.served.now
-    c.if-not-are_taken.ensures
-    (λ all. MatchBool-at_false _ _ c.if-not-reached.true c.in_ok-reached.ensures
-    (subst (λ (slots : ℕ). AreReached slots c.args.served.now) (sym c.requires.slots) all))
+    (MatchBool-at_true _ _ c.if-not-branch.false c.in_ok-replay.ensures.right) c.args.acquired c.args.served.now
+    c.args.slots c.requires.slots c.requires.witnessed c.if-not-are_whole.ensures
+    c.check_starts.result c.check_starts.ensures.err
 
 pub returns-clause-ok : goal.returns-clause-ok
 returns-clause-ok g c =
@@ -57,8 +56,7 @@ returns-clause-ok g c =
     c.in_ok-readings.readings.items c.sort_readings.new.readings.items c.as_slice-2.result.now
     c.in_ok-readings.ensures c.sort_readings.ensures.all c.as_slice-2.ensures.value
     c.in_ok-replay.ensures.ok c.in_ok-replay.ensures.all
-    (MatchBool-at_true _ _ c.if-not-branch.false c.in_ok-replay.ensures.right) c.args.served.now
-    c.if-not-are_taken.ensures
-    (subst (λ (slots : ℕ). AreReached slots c.args.served.now) c.requires.slots
-    (MatchBool-at_true _ _ c.if-not-reached.false c.in_ok-reached.ensures)) c.in_ok-receipts.ensures.forward c.in_ok-receipts.ensures.timed
-    c.requires.logged
+    (MatchBool-at_true _ _ c.if-not-branch.false c.in_ok-replay.ensures.right) c.args.acquired c.args.served.now
+    c.args.slots c.requires.slots c.requires.witnessed c.if-not-are_whole.ensures
+    c.check_starts.result c.check_starts.ensures.ok
+    c.in_ok-receipts.ensures.forward c.in_ok-receipts.ensures.timed

@@ -7,7 +7,7 @@ use Rattle.senders.proofs.ClosingLemmas.{in_order, count_cause, repeated_cause}
 use Rattle.senders.proofs.closing.order_receipts.Goals as goal
 
 pub returns-then-len-count-clause-err : goal.returns-then-len-count-clause-err
-returns-then-len-count-clause-err g c = λ served.
+returns-then-len-count-clause-err g c = λ acquired served.
     count_cause c.args.book.now c.args.seats.now
     (map (λ (one : Bor ReceiptOf). one.now) c.in_ok-receipts.receipts.items) c.log_len-count.result
     c.in_ok-receipts.ensures c.log_len-count.ensures.shows
@@ -20,7 +20,7 @@ returns-then-len-count-clause-err g c = λ served.
     )))
 
 pub returns-then-not-rise-clause-err : goal.returns-then-not-rise-clause-err
-returns-then-not-rise-clause-err g c = λ served.
+returns-then-not-rise-clause-err g c = λ acquired served.
     let shown : List (Bor ReceiptOf) → List ReceiptOf = λ list. map (λ (one : Bor ReceiptOf). one.now) list in
     repeated_cause c.args.book.now c.args.seats.now (shown c.in_ok-receipts.receipts.items)
     (shown c.sort_receipts.new.receipts.items) c.log_len-count.result

@@ -1,8 +1,8 @@
 use Rattle.senders.proofs.FollowingLemmas as lemmas
 use Rattle.senders.proofs.laws.closed_publishers_were_followed.Goals as goal
 
-pub returns-clause-told : goal.returns-clause-told
-returns-clause-told c = lemmas.closed_are_told
+pub returns-clause-explained : goal.returns-clause-explained
+returns-clause-explained c = lemmas.closed_are_explained
 
 pub returns-clause-streams : goal.returns-clause-streams
 returns-clause-streams c = lemmas.closed_tell_the_log

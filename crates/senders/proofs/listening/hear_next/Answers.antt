@@ -13,10 +13,10 @@ returns g c =
     c.pull.new.self c.pull.result c.in-Ok-true.field-0 c.in-Ok-true.is c.in-Ok-true.field-0-test
     c.pull.ensures in
     subst
-    (λ (next : Next). HearsNext g.P.Publishing.checked (left c.args.reader.now) (left c.pull.new.reader) failed ended
+    (λ (next : Next). HearsNext g.P.Publishing.checked c.args.viewer.now c.hear_piece-listened.new.viewer (left c.args.reader.now) (left c.pull.new.reader) failed ended
     c.args.listener.now c.hear_piece-listened.new.listener next)
     (sym c.next_of.ensures)
-    (hears_next g.P.Publishing.checked (left c.args.reader.now) (left c.pull.new.reader) failed ended
+    (hears_next g.P.Publishing.checked c.args.viewer.now c.hear_piece-listened.new.viewer (left c.args.reader.now) (left c.pull.new.reader) failed ended
     c.args.listener.now c.pull.new.self c.hear_piece-listened.new.listener pulls
     c.hear_piece-listened.ensures.room c.hear_piece-listened.ensures.requested c.hear_piece-listened.result.was_over c.hear_piece-listened.result.heard
     c.hear_piece-listened.ensures.hears)

@@ -1,24 +1,36 @@
-use Rattle.senders.proofs.HearingLemmas.{hears_piece, says_requested}
+use Rattle.std.proofs.Common.{subst}
+use Rattle.std.specs.Prelude.{Option}
+use Rattle.publisher_desk.specs.Viewers.{IsUsedIf}
+use Rattle.senders.specs.declared.listener.Listened.{Listened}
+use Rattle.senders.proofs.HearingLemmas.{ListenerDid, heard_nothing, heard_used, says_nothing, says_used}
 use Rattle.senders.proofs.listening.hear_piece.Goals as goal
 
-pub returns-clause-hears : goal.returns-clause-hears
-returns-clause-hears g c =
-    let lent = c.with_slots.ensures in
-    hears_piece g.P.Publishing.checked c.args.listener.now c.with_slots.new.user lent.old lent.new lent.connections
-    c.with_slots.result.heard
-    (record {
-      named = lent.named;
-      transactions = lent.transactions;
-      stands = lent.stands;
-    }) lent.does
+pub returns-in-Some-clause-hears : goal.returns-in-Some-clause-hears
+returns-in-Some-clause-hears g c =
+    heard_used g.P.Publishing.checked c.args.viewer.now c.with_stream.new.viewer c.with_stream.ensures.more
+    c.args.listener.now c.with_stream.new.user c.in-Some.listened
+    (subst (λ (answer : Option Listened). IsUsedIf ListenerDid g.P.Publishing.checked c.args.viewer.now
+    c.with_stream.new.viewer c.args.listener.now c.with_stream.new.user answer) c.in-Some.is
+    c.with_stream.ensures.used)
 
-pub returns-clause-requested : goal.returns-clause-requested
-returns-clause-requested g c =
-    let lent = c.with_slots.ensures in
-    says_requested g.P.Publishing.checked c.args.listener.now c.with_slots.new.user lent.old lent.new lent.connections
-    c.with_slots.result.heard
-    (record {
-      named = lent.named;
-      transactions = lent.transactions;
-      stands = lent.stands;
-    }) lent.does
+pub returns-in-Some-clause-requested : goal.returns-in-Some-clause-requested
+returns-in-Some-clause-requested g c =
+    says_used g.P.Publishing.checked c.args.viewer.now c.with_stream.new.viewer c.with_stream.ensures.more
+    c.args.listener.now c.with_stream.new.user c.in-Some.listened
+    (subst (λ (answer : Option Listened). IsUsedIf ListenerDid g.P.Publishing.checked c.args.viewer.now
+    c.with_stream.new.viewer c.args.listener.now c.with_stream.new.user answer) c.in-Some.is
+    c.with_stream.ensures.used)
+
+pub returns-in-None-clause-hears : goal.returns-in-None-clause-hears
+returns-in-None-clause-hears g c =
+    let unused = subst (λ (answer : Option Listened). IsUsedIf ListenerDid g.P.Publishing.checked c.args.viewer.now
+    c.with_stream.new.viewer c.args.listener.now c.with_stream.new.user answer) c.in-None.is c.with_stream.ensures.used in
+    heard_nothing g.P.Publishing.checked c.args.viewer.now c.with_stream.new.viewer unused.viewer c.args.listener.now
+    c.with_stream.new.user unused.user
+
+pub returns-in-None-clause-requested : goal.returns-in-None-clause-requested
+returns-in-None-clause-requested g c =
+    let unused = subst (λ (answer : Option Listened). IsUsedIf ListenerDid g.P.Publishing.checked c.args.viewer.now
+    c.with_stream.new.viewer c.args.listener.now c.with_stream.new.user answer) c.in-None.is c.with_stream.ensures.used in
+    says_nothing g.P.Publishing.checked c.args.viewer.now c.with_stream.new.viewer unused.viewer c.args.listener.now
+    c.with_stream.new.user unused.user

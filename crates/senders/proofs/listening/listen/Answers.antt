@@ -2,13 +2,13 @@ use Rattle.senders.proofs.HearingLemmas.{hears_nothing, last_after, on_after}
 use Rattle.senders.proofs.listening.listen.Goals as goal
 
 pub loop-init : goal.loop-init
-loop-init g c = hears_nothing g.P.Publishing.checked (g.S.Source.left c.args.reader.now) c.args.listener.now
+loop-init g c = hears_nothing g.P.Publishing.checked c.args.viewer.now (g.S.Source.left c.args.reader.now) c.args.listener.now
 
 pub returns-in-Ends : goal.returns-in-Ends
 returns-in-Ends g c =
     let left = g.S.Source.left in
     let next = c.hear_next in
-    last_after g.P.Publishing.checked (left c.args.reader.now) (left c.loop.reader) (left next.new.reader)
+    last_after g.P.Publishing.checked c.args.viewer.now c.loop.viewer next.new.viewer (left c.args.reader.now) (left c.loop.reader) (left next.new.reader)
     (g.S.Source.has_failed next.new.reader) (g.S.Source.has_ended next.new.reader)
     c.args.listener.now c.loop.listener next.new.listener c.loop.invariant next.result next.ensures c.in-Ends.why
     c.in-Ends.is
@@ -17,7 +17,7 @@ pub returns-in-GoesOn-true : goal.returns-in-GoesOn-true
 returns-in-GoesOn-true g c =
     let left = g.S.Source.left in
     let next = c.hear_next in
-    on_after g.P.Publishing.checked (left c.args.reader.now) (left c.loop.reader) (left next.new.reader)
+    on_after g.P.Publishing.checked c.args.viewer.now c.loop.viewer next.new.viewer (left c.args.reader.now) (left c.loop.reader) (left next.new.reader)
     (g.S.Source.has_failed next.new.reader) (g.S.Source.has_ended next.new.reader)
     c.args.listener.now c.loop.listener next.new.listener c.loop.invariant next.result next.ensures
     c.in-GoesOn-true.field-0 c.in-GoesOn-true.is
@@ -26,7 +26,7 @@ pub loop-preserved : goal.loop-preserved
 loop-preserved g c =
     let left = g.S.Source.left in
     let next = c.hear_next in
-    on_after g.P.Publishing.checked (left c.args.reader.now) (left c.loop.reader) (left next.new.reader)
+    on_after g.P.Publishing.checked c.args.viewer.now c.loop.viewer next.new.viewer (left c.args.reader.now) (left c.loop.reader) (left next.new.reader)
     (g.S.Source.has_failed next.new.reader) (g.S.Source.has_ended next.new.reader)
     c.args.listener.now c.loop.listener next.new.listener c.loop.invariant next.result next.ensures
     c.in-GoesOn-false.field-0 c.in-GoesOn-false.is

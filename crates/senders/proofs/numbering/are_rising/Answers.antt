@@ -10,7 +10,8 @@ loop-seat-preserved g c = (
       c.loop-seat.invariant.0
       (subst (IsRisingSeat c.args.high) c.seat-item.is
       (subst (IsRising c.args.high) c.notes.ensures.shows c.if-not-is_rising.ensures)),
-  All-more IsForwardSeat c.args.seats.now c.loop-seat.seat-index c.seat-item.result (omega arith) c.loop-seat.invariant.1
+  All-more IsForwardSeat c.args.seats.now c.loop-seat.seat-index c.seat-item.result (omega arith)
+      c.loop-seat.invariant.1
       (subst IsForwardSeat c.seat-item.is c.notes.ensures.forward),
   All-more IsTimedSeat c.args.seats.now c.loop-seat.seat-index c.seat-item.result (omega arith) c.loop-seat.invariant.2
       (subst IsTimedSeat c.seat-item.is c.notes.ensures.timed),

@@ -1,5 +1,7 @@
-use Rattle.senders.proofs.ReachLemmas.{AreReachedIn}
+use Rattle.std.proofs.Common.{Bor, map}
+use Rattle.senders.specs.Reached.{AreReached}
+use Rattle.senders.specs.Results.{ServedOf}
 use Rattle.senders.proofs.reaching.are_reached.Given as goal
 
 abbrev pub invariant-loop-slot : goal.invariant-loop-slot
-invariant-loop-slot l = AreReachedIn l.served l.slot
+invariant-loop-slot g l = AreReached l.slot (map (λ (one : Bor ServedOf). one.now) l.starts)

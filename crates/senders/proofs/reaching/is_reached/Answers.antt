@@ -1,49 +1,40 @@
-use Rattle.std.proofs.Common.{◌≡◌, ◌<◌, ℕ, ◌+◌, Bor, max, length, rules, ap, subst, sym, ◌∙◌, ◌≤◌, arith}
-use Rattle.std.proofs.lemmas.List.{length-map}
-use Rattle.std.specs.Arc.{arc_value}
-use Rattle.senders.specs.TakenCommits.{taken_from}
-use Rattle.senders.specs.declared.served.Served.{Served}
-use Rattle.senders.proofs.ReachLemmas.{AreReachedTo, all_reached, none_reached, not_reached, of_another, reached, taken_to}
-use Rattle.senders.proofs.reaching.is_reached.Goals.{then-is_of+else-start-reach, else-is_of}
+use Rattle.std.proofs.Common.{◌≡◌, ◌<◌, ℕ, ◌+◌, Bor, List, ◌++◌, ◌∷◌, [], length, map, max, take, drop, ap, subst, sym, ◌∙◌, rules, arith}
+use Rattle.senders.specs.Results.{ServedOf}
+use Rattle.senders.specs.TakenCommits.{taken_to}
+use Rattle.senders.proofs.ReachLemmas.{AreReachedTo, around, none_reached, not_reached, of_another, of_this, one_more}
+use Rattle.senders.proofs.reaching.is_reached.Goals.{then-is_of+else-is_late, else-is_of}
 use Rattle.senders.proofs.reaching.is_reached.Goals as goal
 
 pub loop-one-init : goal.loop-one-init
-loop-one-init c =
-    none_reached (λ (one : Bor Served). one.now) c.args.all.now c.args.slot c.most_requested-reach.result
-    c.most_requested-reach.ensures.accounted c.most_requested-reach.ensures.most
+loop-one-init g c = none_reached c.args.slot
 
-pub returns-then-start-reach : goal.returns-then-start-reach
-returns-then-start-reach c =
-    let late : c.loop-one.reach < taken_from c.one-item.result.now =
-    omega (arith, c.if-start-reach.true, c.commits_before-start.ensures.is) in
-    not_reached (λ (one : Bor Served). one.now) c.args.all.now c.args.slot c.loop-one.one-index c.one-item.result
-    (omega arith) c.one-item.is c.loop-one.reach c.requires c.loop-one.invariant late c.if-is_of.ensures
+pub returns-then-is_late : goal.returns-then-is_late
+returns-then-is_late g c =
+    let shown : List ServedOf = map (λ (one : Bor ServedOf). one.now) c.args.starts.now in
+    not_reached c.args.slot c.loop-one.reach (take c.loop-one.one-index shown) c.one-item.result.now
+    c.loop-one.invariant c.if-is_of.ensures c.if-is_late.ensures.0 c.if-is_late.ensures.1 shown
+    (drop (c.loop-one.one-index + 1) shown)
+    (around (λ (one : Bor ServedOf). one.now) c.args.starts.now c.loop-one.one-index c.one-item.result (omega arith)
+    c.one-item.is)
 
 pub loop-one-preserved : goal.loop-one-preserved
-loop-one-preserved c =
+loop-one-preserved g c =
     let place : ℕ = c.loop-one.one-index in
-    let inside : place < length c.args.all.now = omega arith in
-    let Goal : ℕ → Type 0 =
-    λ reach. AreReachedTo (λ (one : Bor Served). one.now) c.args.all.now c.args.slot reach (place + 1) in
+    let inside : place < length c.args.starts.now = omega arith in
+    let shown : List ServedOf = map (λ (one : Bor ServedOf). one.now) c.args.starts.now in
+    let one : ServedOf = c.one-item.result.now in
+    let more : take (place + 1) shown ≡ take place shown ++ one ∷ [] =
+    one_more (λ (one : Bor ServedOf). one.now) c.args.starts.now place c.one-item.result inside c.one-item.is in
+    let Goal : ℕ → Type 0 = λ reach. AreReachedTo c.args.slot reach (take (place + 1) shown) in
     elim c.if-is_of.branch [
-      | then-is_of+else-start-reach w ↦
-          let long = length-map c.one-item.result.now.taken.items (λ commit. arc_value commit) in
-          let to : w.commits_before-start.result + w.len.result ≡ taken_to c.one-item.result.now =
-          omega (arith, long, w.len.ensures, w.commits_before-start.ensures.is) in
-          let early : taken_from c.one-item.result.now ≤ c.loop-one.reach =
-          omega (arith, w.if-start-reach.false, w.commits_before-start.ensures.is) in
-          let next : w.max-reach.result ≡ max c.loop-one.reach (w.commits_before-start.result + w.len.result) =
-          search rules in
-          subst Goal (sym (w.reach-is ∙ next ∙ ap (max c.loop-one.reach) to))
-          (reached (λ (one : Bor Served). one.now) c.args.all.now c.args.slot place c.one-item.result inside
-          c.one-item.is c.loop-one.reach w.if-is_of.ensures early c.loop-one.invariant)
+      | then-is_of+else-is_late w ↦
+          let next : w.max-reach.result ≡ max c.loop-one.reach w.commits_up_to.result = search rules in
+          subst Goal (sym (w.reach-is ∙ next ∙ ap (max c.loop-one.reach) w.commits_up_to.ensures))
+          (subst (AreReachedTo c.args.slot (max c.loop-one.reach (taken_to one))) (sym more)
+          (of_this c.args.slot c.loop-one.reach (take place shown) one c.loop-one.invariant w.if-is_of.ensures
+          w.if-is_late.ensures))
       | else-is_of w ↦
           subst Goal (sym w.reach-is)
-          (of_another (λ (one : Bor Served). one.now) c.args.all.now c.args.slot place c.one-item.result inside
-          c.one-item.is c.loop-one.reach (λ its. absurd (w.if-is_of.ensures its)) c.loop-one.invariant)
+          (subst (AreReachedTo c.args.slot c.loop-one.reach) (sym more)
+          (of_another c.args.slot c.loop-one.reach (take place shown) one c.loop-one.invariant w.if-is_of.ensures))
     ]
-
-pub returns : goal.returns
-returns c =
-    all_reached (λ (one : Bor Served). one.now) c.args.all.now c.args.slot c.loop-one.reach c.loop-one.one-index
-    (omega arith) c.loop-one.invariant

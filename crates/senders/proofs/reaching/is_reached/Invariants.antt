@@ -1,7 +1,8 @@
-use Rattle.std.proofs.Common.{Bor}
-use Rattle.senders.specs.declared.served.Served.{Served}
+use Rattle.std.proofs.Common.{Bor, map, take}
+use Rattle.senders.specs.Results.{ServedOf}
 use Rattle.senders.proofs.ReachLemmas.{AreReachedTo}
 use Rattle.senders.proofs.reaching.is_reached.Given as goal
 
 abbrev pub invariant-loop-one : goal.invariant-loop-one
-invariant-loop-one l = AreReachedTo (λ (one : Bor Served). one.now) l.all l.slot l.reach l.one-index
+invariant-loop-one g l =
+    AreReachedTo l.slot l.reach (take l.one-index (map (λ (one : Bor ServedOf). one.now) l.starts))

@@ -4,7 +4,7 @@ use mathlib.Core.List.{[]}
 use denote.Builtin.{usize}
 use denote.Param.{param}
 use denote.Param.Send.{IsSync, Quiet-if, part_keyless, sendable}
-use Rattle.publisher_desk.proofs.Crossing.{publisher_sync}
+use Rattle.publisher_desk.proofs.Crossing.{publisher_sync, viewer_send}
 use Rattle.senders.specs.contracts.listener.Listener as L
 use Rattle.senders.proofs.Crossing.{listener_send}
 use Rattle.senders.proofs.running.run_both.Goals as goal
@@ -12,10 +12,11 @@ use Rattle.senders.proofs.running.run_both.Goals as goal
 slot_sync : IsSync usize
 slot_sync = search sendable
 
--- captures: rt, publisher, slot, listener, reader
+-- captures: rt, publisher, viewer, slot, listener, reader
 pub join_mut-why-requires-send-F : goal.join_mut-why-requires-send-F
 join_mut-why-requires-send-F g c κs within =
     let publisher = publisher_sync (param 0 g.row.P) g.P.Publishing g.P.Ledger in
+    let viewer = viewer_send (param 0 g.row.P) g.P.Publishing g.P.Ledger in
     record {
       owned = λ x vs vss. (
         tt,
@@ -24,17 +25,20 @@ join_mut-why-requires-send-F g c κs within =
           (
             (tt, publisher.shared x.1.now x.1.ref_ptr.0 x.1.ref_ptr.1 _),
             (
-              (tt, slot_sync.shared x.2.now x.2.ref_ptr.0 x.2.ref_ptr.1 []),
+              (tt, (tt, λ y. (part_keyless _ viewer full_share y x.2.ref_ptr.0 x.2.ref_ptr.1, tt))),
               (
-                (tt, (tt, λ y. (part_keyless L.the_row listener_send full_share y x.3.ref_ptr.0 x.3.ref_ptr.1, tt))),
+                (tt, slot_sync.shared x.3.now x.3.ref_ptr.0 x.3.ref_ptr.1 []),
                 (
-                  (tt, (tt, λ y. (part_keyless _ c.type_bounds.send-S full_share y x.4.ref_ptr.0 x.4.ref_ptr.1, tt))),
-                  tt,
+                  (tt, (tt, λ y. (part_keyless L.the_row listener_send full_share y x.4.ref_ptr.0 x.4.ref_ptr.1, tt))),
+                  (
+                    (tt, (tt, λ y. (part_keyless _ c.type_bounds.send-S full_share y x.5.ref_ptr.0 x.5.ref_ptr.1, tt))),
+                    tt,
+                  ),
                 ),
               ),
             ),
           ),
         ),
       );
-      leaving = λ k. Quiet-if (k (of_param 1)) _ _ (λ x w. (tt, (tt, (tt, (tt, (tt, tt)))))) (λ x w. tt);
+      leaving = λ k. Quiet-if (k (of_param 1)) _ _ (λ x w. (tt, (tt, (tt, (tt, (tt, (tt, tt))))))) (λ x w. tt);
     }

@@ -20,6 +20,7 @@ returns-then-is_err g c =
           if_err c.flush.result c.is_err.result
           (has_failed c.flush.new.writer ≡ has_failed c.tell_all-taken.new.writer)
           (has_failed c.flush.new.writer ≡ true) c.is_err.ensures.value c.if-is_err.true c.flush.ensures.failed;
+      logged = c.tell_all-taken.ensures.logged;
     }
 
 pub returns : goal.returns
@@ -35,4 +36,5 @@ returns g c =
           c.flush.new.voice c.flush.ensures.flushes c.tell_all-taken.result.1
           (not_fault c.tell_all-taken.result.1 c.in-ConnectionEnded.is) c.tell_all-taken.ensures.tells none;
       failed = λ is. absurd (not_fault c.tell_all-taken.result.1 c.in-ConnectionEnded.is is);
+      logged = c.tell_all-taken.ensures.logged;
     }

@@ -1,54 +1,79 @@
-use Rattle.std.proofs.Common.{[], ap, ◌∙◌, subst}
+use Rattle.std.proofs.Common.{◌∙◌, ap, refl, sym, subst}
+use Rattle.std.specs.Prelude.{false, []}
 use Rattle.shard_checker.specs.CheckedView.{CheckedOf}
+use Rattle.publisher_desk.specs.Viewers.{ViewerOf, new_viewer}
 use Rattle.senders.specs.Listening.{HasListened}
-use Rattle.senders.proofs.RefusedLemmas.{served_nothing, served_refused}
-use Rattle.senders.proofs.ServingLemmas.{served_ended, served_started, with_request}
-use Rattle.senders.specs.declared.listener.Listener.{Listener}
-use Rattle.senders.proofs.serving.serve.Goals.{in-Refused, in-Ended, in-Started}
+use Rattle.senders.specs.Results.{served_of}
+use Rattle.senders.specs.Serving.{IsServed}
+use Rattle.senders.proofs.RefusedLemmas.{served_nothing}
+use Rattle.senders.proofs.SeenLogs.{sees_on}
+use Rattle.senders.proofs.WitnessLemmas.{holds_by, sees_if, served_by, starts_on, witnessed_by}
 use Rattle.senders.proofs.serving.serve.Goals as goal
 
-pub returns-in_default : goal.returns-in_default
-returns-in_default g c =
-    served_nothing g.P.Publishing.checked (g.S.Source.left c.args.reader.now)
+pub returns-in_default-clause-served : goal.returns-in_default-clause-served
+returns-in_default-clause-served g c =
+    subst (IsServed g.P.Publishing.checked (g.S.Source.left c.args.reader.now) (g.S.Source.left c.args.reader.now)
     (g.S.Source.has_failed c.args.reader.now) (g.S.Source.has_ended c.args.reader.now)
-    (g.W.Sink.taken c.args.writer.now) (g.W.Sink.has_failed c.args.writer.now) c.unstarted.result
-    c.unstarted.ensures.slot c.unstarted.ensures.start c.unstarted.ensures.taken c.unstarted.ensures.end
+    (g.W.Sink.taken c.args.writer.now) (g.W.Sink.taken c.args.writer.now) (g.W.Sink.has_failed c.args.writer.now))
+    (sym (c.new-in_default-2.ensures
+    ∙ ap (λ (viewer : ViewerOf). served_of c.unstarted-outcome.result false 0 viewer) c.new-in_default.ensures))
+    (served_nothing g.P.Publishing.checked (g.S.Source.left c.args.reader.now)
+    (g.S.Source.has_failed c.args.reader.now) (g.S.Source.has_ended c.args.reader.now)
+    (g.W.Sink.taken c.args.writer.now) (g.W.Sink.has_failed c.args.writer.now) c.unstarted-outcome.result
+    c.unstarted-outcome.ensures.slot c.unstarted-outcome.ensures.start c.unstarted-outcome.ensures.taken
+    c.unstarted-outcome.ensures.end)
 
-pub returns : goal.returns
-returns g c =
+-- the slot of the stream is the connection's own
+pub release_if-requires : goal.release_if-requires
+release_if-requires g c =
     let checked = g.P.Publishing.checked in
-    let left = g.S.Source.left in
-    let source_failed = g.S.Source.has_failed in
-    let source_ended = g.S.Source.has_ended in
-    let taken = g.W.Sink.taken in
-    let sink_failed = g.W.Sink.has_failed in
-    let fresh : HasListened checked [] c.in-Ok.listener =
-    subst (λ (k : CheckedOf). HasListened k [] c.in-Ok.listener) c.checked.ensures c.in-Ok.ensures.heard in
-    let said = c.is_requested-is_requested.result in
-    elim c.match-begin.branch [
-      | in-Refused w ↦ rw (w.reader-is, w.writer-is, w.served-is)
-          (served_refused checked (left c.args.reader.now) (left c.begin.new.reader)
-          (source_failed c.begin.new.reader) (source_ended c.begin.new.reader) (taken c.args.writer.now)
-          (taken w.answer.new.writer)
-          (sink_failed w.answer.new.writer) c.in-Ok.listener c.begin.new.listener
-          (with_request said w.unstarted-served.result) w.in-Refused.why fresh w.in-Refused.ensures w.answer.ensures
-          w.unstarted-served.ensures.slot w.unstarted-served.ensures.start w.unstarted-served.ensures.taken
-          (w.unstarted-served.ensures.end ∙ w.cause_of.ensures))
-      | in-Ended w ↦ rw (w.reader-is, w.writer-is, w.served-is)
-          (served_ended checked (left c.args.reader.now) (left c.begin.new.reader) (source_failed c.begin.new.reader)
-          (source_ended c.begin.new.reader) (taken c.args.writer.now)
-          (taken w.serve_ended-served.new.writer) (sink_failed w.serve_ended-served.new.writer) c.in-Ok.listener
-          c.begin.new.listener fresh w.serve_ended-served.result said
-          (c.is_requested-is_requested.ensures ∙ ap (λ (listener : Listener). listener.is_requested) w.listener-is)
-          w.in-Ended.started w.in-Ended.why w.in-Ended.ensures w.serve_ended-served.ensures)
-      | in-Started w ↦ rw (w.reader-is, w.writer-is, w.served-is)
-          (served_started checked (left c.args.reader.now) (left w.serve_started-served.new.reader)
-          (source_failed w.serve_started-served.new.reader) (source_ended w.serve_started-served.new.reader)
-          (taken c.args.writer.now) (taken w.serve_started-served.new.writer)
-          (sink_failed w.serve_started-served.new.writer) c.in-Ok.listener w.serve_started-served.new.listener
-          fresh
-          w.serve_started-served.result said
-          (c.is_requested-is_requested.ensures ∙ ap (λ (listener : Listener). listener.is_requested) w.listener-is)
-          (left c.begin.new.reader) c.begin.new.listener w.in-Started.started
-          w.in-Started.ensures w.serve_started-served.ensures)
-    ]
+    let fresh : HasListened checked new_viewer [] c.in-Ok.listener =
+    subst (λ (k : CheckedOf). HasListened k new_viewer [] c.in-Ok.listener) c.checked.ensures c.in-Ok.ensures.heard in
+    holds_by checked c.new-viewer.result c.outcome_of-outcome.new.viewer c.compare.new.viewer c.compare.ensures.more
+    (g.S.Source.left c.args.reader.now) (g.S.Source.left c.outcome_of-outcome.new.reader)
+    (g.S.Source.has_failed c.outcome_of-outcome.new.reader) (g.S.Source.has_ended c.outcome_of-outcome.new.reader)
+    (g.W.Sink.taken c.args.writer.now) (g.W.Sink.taken c.outcome_of-outcome.new.writer)
+    (g.W.Sink.has_failed c.outcome_of-outcome.new.writer) c.in-Ok.listener c.outcome_of-outcome.new.listener
+    (subst (λ (viewer : ViewerOf). HasListened checked viewer [] c.in-Ok.listener) (sym c.new-viewer.ensures) fresh)
+    c.outcome_of-outcome.result.1 c.outcome_of-outcome.result.0 c.outcome_of-outcome.new.listener.is_requested 0 refl
+    c.outcome_of-outcome.ensures c.compare.new.viewer.held c.compare.ensures.held
+
+pub new-requires-2 : goal.new-requires-2
+new-requires-2 g c =
+    let checked = g.P.Publishing.checked in
+    let fresh : HasListened checked new_viewer [] c.in-Ok.listener =
+    subst (λ (k : CheckedOf). HasListened k new_viewer [] c.in-Ok.listener) c.checked.ensures c.in-Ok.ensures.heard in
+    witnessed_by checked c.new-viewer.result c.outcome_of-outcome.new.viewer c.release_if.new.viewer
+    (sees_on c.outcome_of-outcome.new.viewer c.compare.new.viewer c.release_if.new.viewer c.compare.ensures.more
+    (sees_if c.outcome_of-outcome.result.0.slot c.compare.new.viewer c.release_if.new.viewer c.release_if.ensures))
+    (g.S.Source.left c.args.reader.now) (g.S.Source.left c.outcome_of-outcome.new.reader)
+    (g.S.Source.has_failed c.outcome_of-outcome.new.reader) (g.S.Source.has_ended c.outcome_of-outcome.new.reader)
+    (g.W.Sink.taken c.args.writer.now) (g.W.Sink.taken c.outcome_of-outcome.new.writer)
+    (g.W.Sink.has_failed c.outcome_of-outcome.new.writer) c.in-Ok.listener c.outcome_of-outcome.new.listener
+    (subst (λ (viewer : ViewerOf). HasListened checked viewer [] c.in-Ok.listener) (sym c.new-viewer.ensures) fresh)
+    c.outcome_of-outcome.result.1 c.outcome_of-outcome.result.0 c.is_requested.result c.number.result
+    c.is_requested.ensures c.outcome_of-outcome.ensures c.compare.new.viewer c.compare.ensures.held c.number.ensures
+    (starts_on c.compare.new.viewer c.release_if.new.viewer c.outcome_of-outcome.result.1
+    (sees_if c.outcome_of-outcome.result.0.slot c.compare.new.viewer c.release_if.new.viewer c.release_if.ensures)
+    c.compare.ensures.begins) c.is_accepted.ensures c.release_if.ensures
+
+pub returns-clause-served : goal.returns-clause-served
+returns-clause-served g c =
+    let checked = g.P.Publishing.checked in
+    let fresh : HasListened checked new_viewer [] c.in-Ok.listener =
+    subst (λ (k : CheckedOf). HasListened k new_viewer [] c.in-Ok.listener) c.checked.ensures c.in-Ok.ensures.heard in
+    subst (IsServed checked
+    (g.S.Source.left c.args.reader.now) (g.S.Source.left c.outcome_of-outcome.new.reader)
+    (g.S.Source.has_failed c.outcome_of-outcome.new.reader) (g.S.Source.has_ended c.outcome_of-outcome.new.reader)
+    (g.W.Sink.taken c.args.writer.now) (g.W.Sink.taken c.outcome_of-outcome.new.writer)
+    (g.W.Sink.has_failed c.outcome_of-outcome.new.writer)) (sym c.new-2.ensures)
+    (served_by checked c.new-viewer.result c.outcome_of-outcome.new.viewer c.release_if.new.viewer
+    (sees_on c.outcome_of-outcome.new.viewer c.compare.new.viewer c.release_if.new.viewer c.compare.ensures.more
+    (sees_if c.outcome_of-outcome.result.0.slot c.compare.new.viewer c.release_if.new.viewer c.release_if.ensures))
+    (g.S.Source.left c.args.reader.now) (g.S.Source.left c.outcome_of-outcome.new.reader)
+    (g.S.Source.has_failed c.outcome_of-outcome.new.reader) (g.S.Source.has_ended c.outcome_of-outcome.new.reader)
+    (g.W.Sink.taken c.args.writer.now) (g.W.Sink.taken c.outcome_of-outcome.new.writer)
+    (g.W.Sink.has_failed c.outcome_of-outcome.new.writer) c.in-Ok.listener c.outcome_of-outcome.new.listener
+    (subst (λ (viewer : ViewerOf). HasListened checked viewer [] c.in-Ok.listener) (sym c.new-viewer.ensures) fresh)
+    c.outcome_of-outcome.result.1 c.outcome_of-outcome.result.0 c.is_requested.result c.number.result
+    c.is_requested.ensures c.outcome_of-outcome.ensures)

@@ -2,7 +2,7 @@ use Rattle.cli.proofs.LineLemmas.{reading_ends, reading_goes_on}
 use Rattle.cli.specs.Incoming.{coming}
 use Rattle.cli.specs.Lines.{ReadsLine}
 use Rattle.commands.specs.Parts.{is_separator}
-use Rattle.std.proofs.Common.{rules, append_assoc, sym, ap, ◌≡◌, ◌++◌, ◌∷◌, [], ◌∙◌, false, List, ℕ, codes}
+use Rattle.std.proofs.Common.{rules, ◌≡◌, ◌++◌, ◌∷◌, [], false, codes}
 use Rattle.cli.proofs.publish.parts.read_lines.Goals as goal
 
 pub returns-then-is_separator-clause-ok : goal.returns-then-is_separator-clause-ok

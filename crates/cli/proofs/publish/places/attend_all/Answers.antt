@@ -1,7 +1,6 @@
-use mathlib.Core.List.{[]}
 use mir.Syntax.{of_param}
 use denote.Param.{param}
-use denote.Param.Send.{Quiet-if, sendable}
+use denote.Param.Send.{Quiet-if}
 use Rattle.publisher_desk.proofs.Crossing.{publisher_sync}
 use Rattle.cli.proofs.Crossing.{hall_sync}
 use Rattle.cli.proofs.publish.places.attend_all.Goals as goal

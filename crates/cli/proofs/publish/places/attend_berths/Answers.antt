@@ -33,6 +33,6 @@ returns g c =
     stay_served checked c.args.berths.now c.for_each_mut.new.s (search)
     (λ place other below. let at = (c.for_each_mut.ensures place other below).1 in
     let first = slice_index_or c.args.berths.now place other in
-    subst (λ (after : Berth). StayServed checked first.served.items after.served.items) at.left
-    (subst (λ (before : Berth). StayServed checked before.served.items at.after_call.now.served.items)
+    subst (λ (after : Berth _). StayServed checked first.served.items after.served.items) at.left
+    (subst (λ (before : Berth _). StayServed checked before.served.items at.after_call.now.served.items)
     at.argument_is at.call))

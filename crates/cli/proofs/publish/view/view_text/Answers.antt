@@ -1,4 +1,4 @@
-use Rattle.std.proofs.Common.{◌≡◌, ◌∙◌, ℕ, length, rules, ap}
+use Rattle.std.proofs.Common.{◌≡◌, ◌∙◌, length, rules, ap}
 use Rattle.std.proofs.lemmas.Result.{IfOk-weaker}
 use Rattle.filter_tree.specs.Expr.{Expr}
 use Rattle.pub_catalog.specs.CatalogView.{catalog_view}

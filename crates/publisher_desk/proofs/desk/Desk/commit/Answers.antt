@@ -26,7 +26,7 @@ invariant_of-self g c =
     commit_held g.P.Publishing.checked g.P.Publishing.limit c.self.inside.book c.make_commit.new.book
     (map command_view c.as_slice.result.now) c.args.time c.in-Ok.number c.self.inside.counted.total
     c.make_commit.new.counted.total c.self.inside.connections.items c.self.inside.history c.record.new.self
-    c.in-Ok.ensures.ok c.in-Ok.ensures.total
+    c.self.inside.slots c.in-Ok.ensures.ok c.in-Ok.ensures.total
     (history_adds c.self.inside.book c.self.inside.history c.self.invariant.history_is c.make_commit.new.book
     (map command_view c.as_slice.result.now) c.args.time c.in-Ok.number c.new-receipt.result c.record.new.self
     c.in-Ok.ensures.ok

@@ -10,6 +10,7 @@ invariant_of-result g c =
     new_held (checked_view (arc_value c.args.checked)) g.P.Publishing.checked c.in_ok-book.book c.args.limit
     g.P.Publishing.limit c.args.counted.total c.len.result
     (record { sent = 0; wants_reply = false; has_ended = false }) c.in_ok-connections.connections.items c.args.history
+    c.args.slots
     c.in_ok-book.ensures
     c.requires.checked c.requires.limit c.requires.total refl (search rules) (search rules)
-    c.requires.history
+    c.requires.history c.requires.slots

@@ -1,9 +1,11 @@
-use Rattle.std.proofs.Common.{List, length, refl, subst, sym}
+use Rattle.std.proofs.Common.{List, arith, length, refl, rules, subst, sym}
+use Rattle.std.proofs.lemmas.Grind.{common_steps}
 use Rattle.tables_log.specs.BookView.{book_log}
 use Rattle.tables_log.specs.Lsn.{end_lsn_of}
 use Rattle.publisher_desk.specs.Held.{AreSentUpTo}
 use Rattle.publisher_desk.specs.Receipts.{transactions_of}
 use Rattle.publisher_desk.specs.declared.connection_state.ConnectionState.{ConnectionState}
+use Rattle.publisher_desk.proofs.HeldLemmas.{kept_events}
 use Rattle.publisher_desk.proofs.desk.Desk.with_slots_for.Goals as goal
 
 -- what was lent is what the lock holds
@@ -25,4 +27,15 @@ returns-clause-lent g c = record {
   log = c.self.inside.history.all;
   log_is = refl;
   sees = c.look.ensures.seen;
+}
+
+pub invariant_of-self : goal.invariant_of-self
+invariant_of-self g c = record {
+  is = search rules;
+  counted = search rules;
+  slots = grind (arith, common_steps);
+  sent = grind (arith, common_steps);
+  history_is = search rules;
+  events_are = kept_events c.self.inside.book c.use_slots-answer.new.book _ c.self.inside.slots
+      c.use_slots-answer.ensures.slots c.use_slots-answer.ensures.uses c.self.invariant.events_are;
 }

@@ -1,9 +1,13 @@
-use Rattle.std.proofs.Common.{◌≡◌, [], ◌∙◌, subst, ap}
+use Rattle.std.proofs.Common.{◌≡◌, ℕ, [], ◌∙◌, refl, subst, sym, ap}
+use Rattle.std.specs.Prelude.{Option, None, false}
 use Rattle.std.specs.Arc.{arc_value}
 use Rattle.shard_checker.specs.CheckedView.{CheckedOf, checked_view}
 use Rattle.shard_checker.specs.declared.checked.Checked.{Checked}
 use Rattle.copy_both.specs.HeardFrames.{HasHeard}
 use Rattle.copy_both.proofs.PiecesHeard.{nothing_is_heard}
+use Rattle.publisher_desk.specs.Viewers.{new_viewer}
+use Rattle.senders.specs.Listening.{HoldsStream}
+use Rattle.senders.specs.Results.{books_seen}
 use Rattle.senders.proofs.listener.Listener.new.Goals as goal
 
 pub returns-clause-heard : goal.returns-clause-heard
@@ -11,8 +15,10 @@ returns-clause-heard c =
     let new = c.new-ear in
     let same : arc_value c.in_ok-try_clone.field-0 ≡ arc_value c.args.checked.now = c.in_ok-try_clone.ensures in
     record {
-      heard = subst (λ (checked : CheckedOf). HasHeard checked [] new.result)
+      heard = subst (λ (checked : CheckedOf). HasHeard checked (books_seen new_viewer) [] new.result)
           (new.ensures.checked ∙ ap (λ (checked : Checked). checked_view checked) same)
-          (nothing_is_heard new.result new.ensures.phase new.ensures.started new.ensures.held);
+          (nothing_is_heard (books_seen new_viewer) new.result new.ensures.phase new.ensures.started new.ensures.held);
       requested = λ slot start started says. cc;
+      holding = subst (λ (start : Option (ℕ × ℕ)). HoldsStream start false 0 None) (sym new.ensures.started)
+          (refl, refl);
     }

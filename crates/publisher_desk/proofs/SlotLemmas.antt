@@ -1,0 +1,243 @@
+-- What a connection does with the slots keeps what the lock holds, and what it then knows.
+use Rattle.std.proofs.Common.{◌≡◌, ℕ, ◌+◌, List, [], ◌∷◌, ◌++◌, Bool, true, false, refl, sym, ap, ◌∙◌, subst, append-nil}
+use Rattle.std.specs.Prelude.{Option, Some, None}
+use Rattle.shard_checker.specs.CheckedView.{CheckedOf, setting_in}
+use Rattle.table_changes.specs.Tables.{no_rows}
+use Rattle.tables_log.specs.BookView.{book_checked, book_log, book_slots}
+use Rattle.tables_log.specs.Committing.{ChangesSlots}
+use Rattle.tables_log.specs.Slots.{AreInUse, released}
+use Rattle.tables_log.specs.StandsFor.{Transaction, AreAccepted, entries_from}
+use Rattle.tables_log.specs.declared.book.Book.{Book}
+use Rattle.tables_log.specs.declared.slots.Slot.{Slot}
+use Rattle.publisher_desk.specs.Held.{AreEventsOf}
+use Rattle.publisher_desk.specs.Logged.{IsHistoryOf}
+use Rattle.publisher_desk.specs.Receipts.{ReceiptOf, transactions_of}
+use Rattle.publisher_desk.specs.Sights.{Sees, StartsWith}
+use Rattle.publisher_desk.specs.SlotEvents.{Acquires, MayAcquire, acquisitions, use_after}
+use Rattle.publisher_desk.specs.SlotSights.{AddsEvent, BeginsWith, HasSlot, MayHaveSlot, SeesEvents, hold, slot_view}
+use Rattle.publisher_desk.specs.Viewers.{ChangesSight, HadSlot, HasReleased, Holds, IsAcceptedLog, IsUsed, IsUsedIf, IsStreamed, IsStreamedIf, Releases, SeesLog, SeesMore, ViewerOf, events_with, held_with, log_seen}
+use Rattle.publisher_desk.specs.declared.connection_state.ConnectionState.{ConnectionState}
+use Rattle.publisher_desk.specs.declared.sight.HistoryView.{HistoryView}
+use Rattle.publisher_desk.specs.declared.sight.Sight.{Sight}
+use Rattle.publisher_desk.specs.declared.slot_event.Acquisition.{Acquisition}
+use Rattle.publisher_desk.specs.declared.slot_event.SlotEvent.{SlotEvent}
+use Rattle.publisher_desk.specs.declared.slot_event.SlotEvent.TheVariants.{Acquired, Released}
+use Rattle.publisher_desk.specs.declared.slot_sight.Hold.{Hold}
+use Rattle.publisher_desk.specs.declared.slot_sight.SlotSight.{SlotSight}
+use Rattle.publisher_desk.specs.declared.slot_sight.SlotView.{SlotView}
+use Rattle.publisher_desk.proofs.HeldLemmas.{kept_events}
+use Rattle.tables_log.proofs.SlotUses.{released_uses}
+use Rattle.publisher_desk.proofs.SlotsKept.{acquired_has, begins_longer, use_more}
+
+-- ---- the book's slots
+
+-- a slot that is acquired was free, by the events
+pub was_free : (book : Book) (events : SlotView) (new : List Slot) (one : Acquisition) → AreEventsOf book events
+    → Acquires (book_slots book) new one → use_after events.all one.slot ≡ false
+was_free book events new one are acquires = sym (are.used one.slot acquires.takes.slot acquires.takes.exists) ∙ acquires.takes.free
+
+pub unacquired_events : (old new : Book) (events more : SlotView) (acquired : Option Acquisition)
+    → acquired ≡ None → AreEventsOf old events → ChangesSlots old new (book_slots new)
+    → MayAcquire (book_slots old) (book_slots new) acquired → more ≡ events → AreEventsOf new more
+unacquired_events old new events more acquired none are changes may same =
+    subst (AreEventsOf new) (sym same) (kept_events old new (book_slots new) events changes
+    (subst (MayAcquire (book_slots old) (book_slots new)) none may) are)
+
+pub acquired_events : (old new : Book) (events more : SlotView) (acquired : Option Acquisition) (one : Acquisition)
+    → acquired ≡ Some one → AreEventsOf old events → MayAcquire (book_slots old) (book_slots new) acquired
+    → more ≡ slot_view true (events.all ++ Acquired one ∷ []) [] → AreEventsOf new more
+acquired_events old new events more acquired one some are may same =
+    let acquires : Acquires (book_slots old) (book_slots new) one =
+    subst (MayAcquire (book_slots old) (book_slots new)) some may in
+    subst (AreEventsOf new) (sym same) (record {
+      used = subst (λ (used : ℕ → Bool). AreInUse used (book_slots new)) (sym (use_more events.all (Acquired one)))
+          (acquires.takes.uses (use_after events.all) are.used);
+      idle = refl;
+    })
+
+pub released_events : (old new : Book) (events more : SlotView) (slot : ℕ) → AreEventsOf old events
+    → ChangesSlots old new (released (book_slots old) slot)
+    → more ≡ slot_view true (events.all ++ Released slot ∷ []) [] → AreEventsOf new more
+released_events old new events more slot are changes same = subst (AreEventsOf new) (sym same) (record {
+  used = subst (AreInUse (use_after (events.all ++ Released slot ∷ []))) (sym changes.slots_are)
+      (subst (λ (used : ℕ → Bool). AreInUse used (released (book_slots old) slot))
+      (sym (use_more events.all (Released slot)))
+      (released_uses (use_after events.all) (book_slots old) slot are.used));
+  idle = refl;
+})
+
+-- ---- the log
+
+pub log_shown : (checked : CheckedOf) (book : Book) (history : HistoryView) → book_checked book ≡ checked
+    → IsHistoryOf book history → book_log book ≡ log_seen checked history.all
+log_shown checked book history named is = is.stands.log
+    ∙ ap (λ (one : CheckedOf). entries_from (setting_in one) no_rows 1 (transactions_of history.all)) named
+
+pub log_accepted : (checked : CheckedOf) (book : Book) (history : HistoryView) → book_checked book ≡ checked
+    → IsHistoryOf book history → IsAcceptedLog checked history.all
+log_accepted checked book history named is =
+    subst (λ (one : CheckedOf). IsAcceptedLog one history.all) named is.stands.accepted
+
+-- the log that is then seen
+pub shown_accepted : (checked : CheckedOf) (log : List ReceiptOf) (old new : Sight) → Sees log old new
+    → IsAcceptedLog checked log → IsAcceptedLog checked new.seen
+shown_accepted checked log old new sees = subst (IsAcceptedLog checked) (sym sees.seen)
+
+-- ---- what a connection knows
+
+begins_same : (events : List SlotEvent) → BeginsWith events events
+begins_same events = ([], sym (append-nil events))
+
+pub sees_more_log : (log : List ReceiptOf) (old new : Sight) → Sees log old new → StartsWith new.seen old.seen
+sees_more_log log old new sees = (sees.begins.0, sees.seen ∙ sees.begins.1)
+
+pub sees_more_events : (all : List SlotEvent) (was now : SlotSight) → SeesEvents all was now
+    → BeginsWith now.events was.events
+sees_more_events all was now sees = (sees.begins.0, sees.seen ∙ sees.begins.1)
+
+pub adds_more_events : (all : List SlotEvent) (event : SlotEvent) (was now : SlotSight) → AddsEvent all event was now
+    → BeginsWith now.events was.events
+adds_more_events all event was now adds =
+    subst (λ (list : List SlotEvent). BeginsWith list was.events) (sym adds.seen)
+    (begins_longer all (event ∷ []) was.events adds.begins)
+
+pub changes_more_events : (acquired : Option Acquisition) (all : List SlotEvent) (was now : SlotSight)
+    → ChangesSight acquired all was now → BeginsWith now.events was.events
+changes_more_events None all was now changes = sees_more_events all was now changes
+changes_more_events (Some one) all was now changes = adds_more_events all (Acquired one) was now changes
+
+-- it still has the slot that it had
+pub sees_has : (all : List SlotEvent) (was now : SlotSight) → SeesEvents all was now
+    → MayHaveSlot now.events now.held
+sees_has all was now sees =
+    subst (λ (held : Option Hold). MayHaveSlot now.events held) (sym sees.held)
+    (subst (λ (list : List SlotEvent). MayHaveSlot list was.held) (sym sees.seen) sees.kept)
+
+pub acquires_has : (all : List SlotEvent) (one : Acquisition) (was now : SlotSight)
+    → AddsEvent all (Acquired one) was now → MayHaveSlot now.events now.held
+acquires_has all one was now adds =
+    subst (λ (held : Option Hold). MayHaveSlot now.events held) (sym adds.held)
+    (subst (λ (list : List SlotEvent). HasSlot list (hold one (acquisitions all + 1))) (sym adds.seen)
+    (acquired_has all one))
+
+pub changes_has : (acquired : Option Acquisition) (all : List SlotEvent) (was now : SlotSight)
+    → ChangesSight acquired all was now → MayHaveSlot now.events now.held
+changes_has None all was now changes = sees_has all was now changes
+changes_has (Some one) all was now changes = acquires_has all one was now changes
+
+-- ---- a release
+
+pub releases_none : (slot : ℕ) (was now : SlotSight) → Releases slot was now → MayHaveSlot now.events now.held
+releases_none slot was now releases =
+    subst (λ (held : Option Hold). MayHaveSlot now.events held) (sym releases.adds.held) tt
+
+-- the slot that it had, as events tell
+had_slot : (all now : List SlotEvent) (slot : ℕ) (mine : Hold) → HasSlot all mine → mine.acquisition.slot ≡ slot
+    → now ≡ all ++ Released slot ∷ [] → HadSlot now mine
+had_slot all now slot mine has same now_is = record {
+  before = has.before;
+  between = has.after;
+  after = [];
+  events_are = now_is ∙ (ap (λ (list : List SlotEvent). list ++ Released slot ∷ []) has.events_are
+      ∙ ap (λ (n : ℕ). has.before ++ Acquired mine.acquisition ∷ has.after ++ Released n ∷ []) (sym same));
+  number_is = has.number_is;
+  alone = has.alone;
+}
+
+pub has_released : (slot : ℕ) (before after : ViewerOf) (was now : SlotSight) → before.held ≡ was.held
+    → after.events ≡ now.events → after.held ≡ now.held → Holds was.held slot → Releases slot was now
+    → HasReleased before after
+has_released slot before after was now old_is events_are new_is holds releases =
+    let adds = releases.adds in
+    let kept : HasSlot releases.events holds.mine =
+    subst (MayHaveSlot releases.events) holds.held_is adds.kept in
+    record {
+      mine = holds.mine;
+      was = old_is ∙ holds.held_is;
+      had = had_slot releases.events after.events slot holds.mine kept holds.slot_is (events_are ∙ adds.seen);
+      none = new_is ∙ adds.held;
+    }
+
+pub released_more : (checked : CheckedOf) (slot : ℕ) (viewer : ViewerOf) (old new : Sight) (was now : SlotSight)
+    → record { seen = old.seen; events = was.events; held = was.held } ≡ viewer → SeesLog checked old new
+    → Releases slot was now
+    → SeesMore viewer (record { seen = new.seen; events = now.events; held = now.held })
+released_more checked slot viewer old new was now viewer_is sees releases =
+    subst (λ (v : ViewerOf). SeesMore v (record { seen = new.seen; events = now.events; held = now.held })) viewer_is
+    (record {
+      log = sees_more_log sees.log old new sees.sees;
+      slots = adds_more_events releases.events (Released slot) was now releases.adds;
+    })
+
+-- ---- a use of the slots
+
+events_changed : (acquired : Option Acquisition) (all : List SlotEvent) (was now : SlotSight)
+    → ChangesSight acquired all was now → now.events ≡ events_with acquired all
+events_changed None all was now changes = changes.seen
+events_changed (Some one) all was now changes = changes.seen
+
+held_changed : (acquired : Option Acquisition) (all : List SlotEvent) (number : ℕ) (was now : SlotSight)
+    → number ≡ acquisitions all + 1 → ChangesSight acquired all was now → now.held ≡ held_with acquired number was.held
+held_changed None all number was now number_is changes = changes.held
+held_changed (Some one) all number was now number_is changes =
+    changes.held ∙ ap (λ (n : ℕ). Some (hold one n)) (sym number_is)
+
+-- what contracts see of it
+module _ {U A : Type 0}
+    (did : U → U → Book → Book → List ConnectionState → List ConnectionState → ℕ → Option Acquisition → A → Type 0)
+    (checked : CheckedOf) (before after : U) (old new : Sight) (was now : SlotSight) (viewer later : ViewerOf)
+    (viewer_is : record { seen = old.seen; events = was.events; held = was.held } ≡ viewer)
+    (later_is : later ≡ record { seen = new.seen; events = now.events; held = now.held }) where
+  is_used : (answer : A) → IsStreamed did checked before after old new was now answer
+      → IsUsed did checked viewer later before after answer
+  is_used answer streamed = record {
+    number = streamed.number;
+    acquired = streamed.acquired;
+    lent = streamed.lent;
+    log_is = ap (λ (v : ViewerOf). transactions_of v.seen) later_is ∙ ap transactions_of streamed.sees.seen
+        ∙ streamed.log_is;
+    events = streamed.events;
+    used = streamed.used;
+    number_is = streamed.number_is;
+    events_are = ap (λ (v : ViewerOf). v.events) later_is
+        ∙ events_changed streamed.acquired streamed.events was now streamed.changes;
+    held_is = ap (λ (v : ViewerOf). v.held) later_is
+        ∙ held_changed streamed.acquired streamed.events streamed.number was now streamed.number_is streamed.changes
+        ∙ ap (λ (v : ViewerOf). held_with streamed.acquired streamed.number v.held) viewer_is;
+  }
+
+  pub used_accepted : (answer : Option A) → IsStreamedIf did checked before after old new was now answer
+      → IsAcceptedLog checked old.seen → IsAcceptedLog checked new.seen
+  used_accepted None unused accepted =
+      subst (λ (s : Sight). IsAcceptedLog checked s.seen) (sym unused.log) accepted
+  used_accepted (Some answer) streamed accepted =
+      shown_accepted checked streamed.log old new streamed.sees
+      (subst (λ (list : List Transaction). AreAccepted (setting_in checked) no_rows list) (sym streamed.log_is)
+      (subst (λ (one : CheckedOf). AreAccepted (setting_in one) no_rows streamed.lent.transactions) streamed.lent.named
+      streamed.lent.stands.accepted))
+
+  pub used_if : (answer : Option A) → IsStreamedIf did checked before after old new was now answer
+      → IsUsedIf did checked viewer later before after answer
+  used_if None unused = record {
+    viewer = later_is ∙ (λ i. record {
+      seen = (unused.log i).seen;
+      events = (unused.slots i).events;
+      held = (unused.slots i).held;
+    }) ∙ viewer_is;
+    user = unused.user;
+  }
+  used_if (Some answer) streamed = is_used answer streamed
+
+  more_of : StartsWith new.seen old.seen → BeginsWith now.events was.events → SeesMore viewer later
+  more_of log slots = subst (λ (v : ViewerOf). SeesMore v later) viewer_is
+      (subst (λ (v : ViewerOf). SeesMore (record { seen = old.seen; events = was.events; held = was.held }) v)
+      (sym later_is) (record { log = log; slots = slots }))
+
+  pub used_more : (answer : Option A) → IsStreamedIf did checked before after old new was now answer
+      → SeesMore viewer later
+  used_more None unused =
+      more_of ([], ap (λ (s : Sight). s.seen) unused.log ∙ sym (append-nil old.seen))
+      ([], ap (λ (s : SlotSight). s.events) unused.slots ∙ sym (append-nil was.events))
+  used_more (Some answer) streamed =
+      more_of (sees_more_log streamed.log old new streamed.sees)
+      (changes_more_events streamed.acquired streamed.events was now streamed.changes)

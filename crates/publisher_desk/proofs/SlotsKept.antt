@@ -1,0 +1,457 @@
+-- Each step keeps what tokens know of the slots.
+use Rattle.std.proofs.Common.{◌≡◌, ◌≢◌, ℕ, zero, suc, ◌+◌, ◌≤◌, List, [], ◌∷◌, ◌++◌, set, Bool, true, false, true≢false, refl, sym, ap, ◌∙◌, subst, ⊎_elim, arith, append_assoc, append-nil, cond, eq-eqb, ne_eqb}
+use Rattle.std.specs.Prelude.{Option, Some, None}
+use mathlib.Core.Option.{some, some-injective, some-ne-none}
+use mathlib.Core.Logic.{dite}
+use native.Mathlib.Decide.{ℕ_discrete}
+use lib.ListN.{get_elem?}
+use Rattle.atomic_table.specs.Table.{State, Me, Allows, Splits, Joins}
+use Rattle.atomic_table.specs.Table as table
+use Rattle.atomic_table.proofs.Lists.{at_set, at_snoc, set_else}
+use Rattle.publisher_desk.specs.SlotEvents.{LeaveAlone, acquisitions, slot_in, use_after, use_by, use_from}
+use Rattle.publisher_desk.specs.SlotSights.{slot_view, hold, BeginsWith, HasSlot, MayHaveSlot, AreKnown, has_slot, held_in, held_by, FitsEvents, AreSlotsKept, begun, shown_in, shown, held_after, added_in, added, MayHappen, first_in, rest_in, only_in, left, given, joined, nobody}
+use Rattle.publisher_desk.specs.declared.slot_event.Acquisition.{Acquisition}
+use Rattle.publisher_desk.specs.declared.slot_event.SlotEvent.{SlotEvent}
+use Rattle.publisher_desk.specs.declared.slot_event.SlotEvent.TheVariants.{Acquired, Released}
+use Rattle.publisher_desk.specs.declared.slot_sight.Hold.{Hold}
+use Rattle.publisher_desk.specs.declared.slot_sight.SlotSight.{SlotSight}
+use Rattle.publisher_desk.specs.declared.slot_sight.SlotView.{SlotView}
+
+-- ---- events
+
+use_push : (used : ℕ → Bool) (events : List SlotEvent) (event : SlotEvent)
+    → use_from used (events ++ event ∷ []) ≡ use_by event (use_from used events)
+use_push used [] event = refl
+use_push used (first ∷ events) event = use_push (use_by first used) events event
+
+pub use_more : (events : List SlotEvent) (event : SlotEvent)
+    → use_after (events ++ event ∷ []) ≡ use_by event (use_after events)
+use_more events event = use_push (λ number. false) events event
+
+acquisitions_append : (events more : List SlotEvent)
+    → acquisitions (events ++ more) ≡ acquisitions events + acquisitions more
+acquisitions_append [] more = omega arith
+acquisitions_append (Acquired one ∷ events) more = let rest = acquisitions_append events more in omega (arith, rest)
+acquisitions_append (Released slot ∷ events) more = acquisitions_append events more
+
+pub acquired_count : (events : List SlotEvent) (one : Acquisition)
+    → acquisitions (events ++ Acquired one ∷ []) ≡ acquisitions events + 1
+acquired_count events one = acquisitions_append events (Acquired one ∷ [])
+
+pub released_count : (events : List SlotEvent) (slot : ℕ)
+    → acquisitions (events ++ Released slot ∷ []) ≡ acquisitions events
+released_count events slot = let all = acquisitions_append events (Released slot ∷ []) in omega (arith, all)
+
+pub alone_append : (slot : ℕ) (events : List SlotEvent) (event : SlotEvent) → LeaveAlone slot events
+    → slot_in event ≢ slot → LeaveAlone slot (events ++ event ∷ [])
+alone_append slot [] event alone other = (other, tt)
+alone_append slot (first ∷ events) event alone other = (alone.0, alone_append slot events event alone.1 other)
+
+-- ---- which views have a slot
+
+has_here : (slot : ℕ) (held : Hold) → held.acquisition.slot ≡ slot → has_slot slot (Some held) ≡ 1
+has_here slot held same = ap (λ b. cond b 1 0) (eq-eqb held.acquisition.slot slot same)
+
+has_else : (slot : ℕ) (held : Hold) → held.acquisition.slot ≢ slot → has_slot slot (Some held) ≡ 0
+has_else slot held apart = ap (λ b. cond b 1 0) (ne_eqb held.acquisition.slot slot apart)
+
+held_in_append : (slot : ℕ) (sights more : List SlotSight)
+    → held_in slot (sights ++ more) ≡ held_in slot sights + held_in slot more
+held_in_append slot [] more = omega arith
+held_in_append slot (one ∷ sights) more = let rest = held_in_append slot sights more in omega (arith, rest)
+
+held_append : (slot : ℕ) (views more : List SlotView)
+    → held_by slot (views ++ more) ≡ held_by slot views + held_by slot more
+held_append slot [] more = omega arith
+held_append slot (view ∷ views) more = let rest = held_append slot views more in omega (arith, rest)
+
+held_set : (slot : ℕ) (views : List SlotView) (by : ℕ) (v w : SlotView) → get_elem? views by ≡ some v
+    → held_by slot (set views by w) + held_in slot v.sights ≡ held_by slot views + held_in slot w.sights
+held_set slot [] by v w at = absurd (some-ne-none v (sym at))
+held_set slot (view ∷ views) zero v w at =
+    let same = ap (λ (u : SlotView). held_in slot u.sights) (some-injective view v at) in omega (arith, same)
+held_set slot (view ∷ views) (suc by) v w at = let rest = held_set slot views by v w at in omega (arith, rest)
+
+held_one : (slot : ℕ) (views : List SlotView) (by : ℕ) (v : SlotView) → get_elem? views by ≡ some v
+    → held_in slot v.sights ≤ held_by slot views
+held_one slot [] by v at = absurd (some-ne-none v (sym at))
+held_one slot (view ∷ views) zero v at =
+    let same = ap (λ (u : SlotView). held_in slot u.sights) (some-injective view v at) in omega (arith, same)
+held_one slot (view ∷ views) (suc by) v at = let rest = held_one slot views by v at in omega (arith, rest)
+
+-- two views have no slot in common
+held_two : (slot : ℕ) (views : List SlotView) (i j : ℕ) (v w : SlotView) → i ≢ j → get_elem? views i ≡ some v
+    → get_elem? views j ≡ some w → held_in slot v.sights + held_in slot w.sights ≤ held_by slot views
+held_two slot [] i j v w apart at there = absurd (some-ne-none v (sym at))
+held_two slot (view ∷ views) zero zero v w apart at there = absurd (apart refl)
+held_two slot (view ∷ views) zero (suc j) v w apart at there =
+    let same = ap (λ (u : SlotView). held_in slot u.sights) (some-injective view v at) in
+    let rest = held_one slot views j w there in omega (arith, same, rest)
+held_two slot (view ∷ views) (suc i) zero v w apart at there =
+    let same = ap (λ (u : SlotView). held_in slot u.sights) (some-injective view w there) in
+    let rest = held_one slot views i v at in omega (arith, same, rest)
+held_two slot (view ∷ views) (suc i) (suc j) v w apart at there =
+    let rest = held_two slot views i j v w (λ same. apart (ap suc same)) at there in omega (arith, rest)
+
+-- ---- beginnings
+
+pub begins_longer : (all more events : List SlotEvent) → BeginsWith all events → BeginsWith (all ++ more) events
+begins_longer all more events begins =
+    (begins.0 ++ more, ap (λ (list : List SlotEvent). list ++ more) begins.1 ∙ append_assoc events begins.0 more)
+
+begins_whole : (all events : List SlotEvent) → events ≡ all → BeginsWith all events
+begins_whole all events same = ([], sym same ∙ sym (append-nil events))
+
+-- an event of another slot leaves it
+stays_held : (all : List SlotEvent) (event : SlotEvent) (held : Hold) → HasSlot all held
+    → slot_in event ≢ held.acquisition.slot → HasSlot (all ++ event ∷ []) held
+stays_held all event held has other = record {
+  before = has.before;
+  after = has.after ++ event ∷ [];
+  events_are = ap (λ (list : List SlotEvent). list ++ event ∷ []) has.events_are
+      ∙ append_assoc has.before (Acquired held.acquisition ∷ has.after) (event ∷ []);
+  number_is = has.number_is;
+  alone = alone_append held.acquisition.slot has.after event has.alone other;
+}
+
+may_stay : (all : List SlotEvent) (event : SlotEvent) (held : Option Hold) → has_slot (slot_in event) held ≡ 0
+    → MayHaveSlot all held → MayHaveSlot (all ++ event ∷ []) held
+may_stay all event None none has = tt
+may_stay all event (Some held) none has = stays_held all event held has
+    (λ same. let one = has_here (slot_in event) held (sym same) in omega (arith, one, none))
+
+known_longer : (all : List SlotEvent) (event : SlotEvent) (sights : List SlotSight)
+    → held_in (slot_in event) sights ≡ 0 → AreKnown all sights → AreKnown (all ++ event ∷ []) sights
+known_longer all event [] none known = tt
+known_longer all event (one ∷ sights) none known = (
+  begins_longer all (event ∷ []) one.events known.0,
+  may_stay all event one.held (omega (arith, none)) known.1,
+  known_longer all event sights (omega (arith, none)) known.2,
+)
+
+known_append : (all : List SlotEvent) (sights more : List SlotSight) → AreKnown all sights → AreKnown all more
+    → AreKnown all (sights ++ more)
+known_append all [] more known other = other
+known_append all (one ∷ sights) more known other = (known.0, known.1, known_append all sights more known.2 other)
+
+shown_known : (log all : List SlotEvent) (sights : List SlotSight) → all ≡ log → AreKnown log sights
+    → AreKnown log (shown_in all sights)
+shown_known log all [] same known = tt
+shown_known log all (one ∷ sights) same known = (begins_whole log all same, known.1, known.2)
+
+shown_held : (slot : ℕ) (all : List SlotEvent) (sights : List SlotSight)
+    → held_in slot (shown_in all sights) ≡ held_in slot sights
+shown_held slot all [] = refl
+shown_held slot all (one ∷ sights) = refl
+
+rest_known : (all : List SlotEvent) (sights : List SlotSight) → AreKnown all sights → AreKnown all (rest_in sights)
+rest_known all [] known = tt
+rest_known all (one ∷ sights) known = known.2
+
+only_known : (all : List SlotEvent) (sights : List SlotSight) → AreKnown all sights → AreKnown all (only_in sights)
+only_known all [] known = tt
+only_known all (one ∷ sights) known = (known.0, known.1, tt)
+
+cut_held : (slot : ℕ) (sights : List SlotSight)
+    → held_in slot sights ≡ held_in slot (only_in sights) + held_in slot (rest_in sights)
+cut_held slot [] = refl
+cut_held slot (one ∷ sights) = omega arith
+
+-- ---- an event
+
+-- the rest of the sights that hold the slot of the event of the first one
+abbrev others : ℕ → List SlotSight → ℕ
+others slot sights = held_in slot (rest_in sights)
+
+split_first : (slot : ℕ) (sights : List SlotSight)
+    → held_in slot sights ≡ has_slot slot (first_in sights).held + others slot sights
+split_first slot [] = refl
+split_first slot (one ∷ sights) = refl
+
+pub acquired_has : (all : List SlotEvent) (one : Acquisition)
+    → HasSlot (all ++ Acquired one ∷ []) (hold one (acquisitions all + 1))
+acquired_has all one = record { before = all; after = []; events_are = refl; number_is = refl; alone = tt }
+
+after_event : (all : List SlotEvent) (event : SlotEvent)
+    → MayHaveSlot (all ++ event ∷ []) (held_after event (acquisitions all))
+after_event all (Acquired one) = acquired_has all one
+after_event all (Released slot) = tt
+
+added_known : (log all : List SlotEvent) (event : SlotEvent) (held : Option Hold) (sights : List SlotSight)
+    → all ≡ log ++ event ∷ [] → MayHaveSlot (log ++ event ∷ []) held → others (slot_in event) sights ≡ 0
+    → AreKnown log sights → AreKnown (log ++ event ∷ []) (added_in all held sights)
+added_known log all event held [] same has none known = tt
+added_known log all event held (one ∷ sights) same has none known = (
+  begins_whole (log ++ event ∷ []) all same,
+  has,
+  known_longer log event sights none known.2,
+)
+
+-- ---- views
+
+off : false ≡ true → ⊥
+off same = true≢false (sym same)
+
+fits_set : (keeper : ℕ) (log : List SlotEvent) (views : List SlotView) (by : ℕ) (w : SlotView)
+    → ((j : ℕ) (u : SlotView) → j ≢ by → get_elem? views j ≡ some u → FitsEvents keeper log j u)
+    → FitsEvents keeper log by w
+    → (j : ℕ) (u : SlotView) → get_elem? (set views by w) j ≡ some u → FitsEvents keeper log j u
+fits_set keeper log views by w others mine j u at = ⊎_elim
+    (λ (here : (j ≡ by) × (w ≡ u)). subst (λ (one : ℕ × SlotView). FitsEvents keeper log one.0 one.1)
+    (λ i. (sym here.0 i, here.1 i)) mine)
+    (λ (there : (j ≢ by) × (get_elem? views j ≡ some u)). others j u there.0 there.1)
+    (at_set views by j w u at)
+
+module _ (views : List SlotView) (kept : AreSlotsKept views) (by : ℕ) (v : SlotView)
+    (at : get_elem? views by ≡ some v) where
+  tells : v.keeps ≡ true → AreKnown v.all v.sights
+  tells keeps =
+      let mine = kept.each by v at in
+      subst (λ (list : List SlotEvent). AreKnown list v.sights) (sym (mine.0 keeps).1) mine.1
+
+  stays : (w : SlotView) → w.keeps ≡ v.keeps → w.all ≡ v.all → AreKnown kept.all w.sights
+      → ((slot : ℕ) → held_in slot w.sights ≡ held_in slot v.sights) → AreSlotsKept (set views by w)
+  stays w keeps all known same =
+      let mine = kept.each by v at in
+      record {
+        keeper = kept.keeper;
+        all = kept.all;
+        each = fits_set kept.keeper kept.all views by w (λ j u apart there. kept.each j u there)
+            ((λ k. let fits = mine.0 (sym keeps ∙ k) in (fits.0, all ∙ fits.1)), known);
+        once = λ slot. let change = held_set slot views by v w at in let alike = same slot in
+            let before = kept.once slot in omega (arith, change, alike, before);
+        free = λ slot unused. let change = held_set slot views by v w at in let alike = same slot in
+            let before = kept.free slot unused in omega (arith, change, alike, before);
+      }
+
+  begins_kept : AreSlotsKept (set views by (begun v))
+  begins_kept = stays (begun v) refl refl ((kept.all, refl), tt, (kept.each by v at).1) (λ slot. omega arith)
+
+  shows_kept : v.keeps ≡ true → AreSlotsKept (set views by (shown v))
+  shows_kept keeps =
+      let mine = kept.each by v at in
+      stays (shown v) refl refl (shown_known kept.all v.all v.sights (mine.0 keeps).1 mine.1)
+      (λ slot. shown_held slot v.all v.sights)
+
+  checks_kept : AreSlotsKept (set views by v)
+  checks_kept = stays v refl refl (kept.each by v at).1 (λ slot. omega arith)
+
+  -- before the event no view but the first sight has its slot
+  module _ (event : SlotEvent) (keeps : v.keeps ≡ true) (may : MayHappen event v.all (first_in v.sights).held) where
+    fits : (by ≡ kept.keeper) × (v.all ≡ kept.all)
+    fits = (kept.each by v at).0 keeps
+
+    unused : (one : Acquisition) → use_after v.all one.slot ≡ false → held_by one.slot views ≡ 0
+    unused one none = kept.free one.slot
+        (subst (λ (list : List SlotEvent). use_after list one.slot ≡ false) fits.1 none)
+
+    mine_has : (slot : ℕ) → (mine : Hold) × ((first_in v.sights).held ≡ Some mine) × (mine.acquisition.slot ≡ slot)
+        → has_slot slot (first_in v.sights).held ≡ 1
+    mine_has slot (mine, held, same) = ap (has_slot slot) held ∙ has_here slot mine same
+
+    -- of the slot of the event, the sights of this view but the first, and the other views
+    no_rest : (e : SlotEvent) → MayHappen e v.all (first_in v.sights).held → others (slot_in e) v.sights ≡ 0
+    no_rest (Acquired one) free =
+        let all = unused one free in let some = held_one one.slot views by v at in
+        let split = split_first one.slot v.sights in omega (arith, all, some, split)
+    no_rest (Released slot) has =
+        let mine = mine_has slot has in let once = kept.once slot in let some = held_one slot views by v at in
+        let split = split_first slot v.sights in omega (arith, mine, once, some, split)
+
+    no_other : (e : SlotEvent) → MayHappen e v.all (first_in v.sights).held → (j : ℕ) (u : SlotView) → j ≢ by
+        → get_elem? views j ≡ some u → held_in (slot_in e) u.sights ≡ 0
+    no_other (Acquired one) free j u apart there =
+        let all = unused one free in let some = held_one one.slot views j u there in omega (arith, all, some)
+    no_other (Released slot) has j u apart there =
+        let mine = mine_has slot has in let once = kept.once slot in
+        let both = held_two slot views j by u v apart there at in
+        let split = split_first slot v.sights in omega (arith, mine, once, both, split)
+
+    abbrev longer : List SlotEvent
+    longer = kept.all ++ event ∷ []
+
+    whole : v.all ++ event ∷ [] ≡ longer
+    whole = ap (λ (list : List SlotEvent). list ++ event ∷ []) fits.1
+
+    abbrev held : Option Hold
+    held = held_after event (acquisitions v.all)
+
+    has_held : MayHaveSlot longer held
+    has_held = subst (λ (list : List SlotEvent). MayHaveSlot list held) whole (after_event v.all event)
+
+    adds_each : (j : ℕ) (u : SlotView) → get_elem? (set views by (added event v)) j ≡ some u
+        → FitsEvents kept.keeper longer j u
+    adds_each = fits_set kept.keeper longer views by (added event v)
+        (λ j u apart there. let other = kept.each j u there in (
+          (λ k. absurd (apart ((other.0 k).0 ∙ sym fits.0))),
+          known_longer kept.all event u.sights (no_other event may j u apart there) other.1,
+        )) (
+          (λ _. (fits.0, whole)),
+          added_known kept.all (v.all ++ event ∷ []) event held v.sights whole has_held (no_rest event may)
+              (kept.each by v at).1,
+        )
+
+    -- what the view then holds of a slot
+    added_held : (slot : ℕ) (all : List SlotEvent) (next : Option Hold) (sights : List SlotSight)
+        → held_in slot (added_in all next sights) ≤ has_slot slot next + others slot sights
+    added_held slot all next [] = omega arith
+    added_held slot all next (one ∷ sights) = omega arith
+
+    -- whatever the event, of its own slot and of each other
+    once_by : (e : SlotEvent) → MayHappen e v.all (first_in v.sights).held → (slot : ℕ) (count : ℕ)
+        → count + held_in slot v.sights
+        ≤ held_by slot views + has_slot slot (held_after e (acquisitions v.all)) + others slot v.sights → count ≤ 1
+    once_by (Acquired one) free slot count change =
+        let before = kept.once slot in let split = split_first slot v.sights in
+        dite (ℕ_discrete one.slot slot)
+        (λ here. let mine = has_here slot (hold one (acquisitions v.all + 1)) here in
+        let none : held_by slot views ≡ 0 = subst (λ (n : ℕ). held_by n views ≡ 0) here (unused one free) in
+        omega (arith, change, mine, none, split))
+        (λ apart. let mine = has_else slot (hold one (acquisitions v.all + 1)) apart in
+        omega (arith, change, mine, before, split))
+    once_by (Released other) has slot count change =
+        let before = kept.once slot in let split = split_first slot v.sights in omega (arith, change, before, split)
+
+    free_by : (e : SlotEvent) → MayHappen e v.all (first_in v.sights).held → (slot : ℕ) (count : ℕ)
+        → use_by e (use_after kept.all) slot ≡ false
+        → count + held_in slot v.sights
+        ≤ held_by slot views + has_slot slot (held_after e (acquisitions v.all)) + others slot v.sights → count ≡ 0
+    free_by (Acquired one) free slot count unused_then change =
+        let split = split_first slot v.sights in
+        dite (ℕ_discrete one.slot slot)
+        (λ here. absurd (true≢false (sym (ap (λ b. cond b true (use_after kept.all slot)) (eq-eqb slot one.slot (sym here)))
+        ∙ unused_then)))
+        (λ apart. let mine = has_else slot (hold one (acquisitions v.all + 1)) apart in
+        let still = sym (ap (λ b. cond b true (use_after kept.all slot)) (ne_eqb slot one.slot (λ same. apart (sym same))))
+        ∙ unused_then in
+        let none = kept.free slot still in omega (arith, change, mine, none, split))
+    free_by (Released other) has slot count unused_then change =
+        let split = split_first slot v.sights in
+        dite (ℕ_discrete other slot)
+        (λ here. let mine = mine_has slot (subst (λ (n : ℕ). (held : Hold) × ((first_in v.sights).held ≡ Some held)
+        × (held.acquisition.slot ≡ n)) here has) in let before = kept.once slot in
+        omega (arith, change, mine, before, split))
+        (λ apart. let still = sym (ap (λ b. cond b false (use_after kept.all slot))
+        (ne_eqb slot other (λ same. apart (sym same)))) ∙ unused_then in
+        let none = kept.free slot still in omega (arith, change, none, split))
+
+    change_of : (slot : ℕ) → held_by slot (set views by (added event v)) + held_in slot v.sights
+        ≤ held_by slot views + has_slot slot held + others slot v.sights
+    change_of slot =
+        let change = held_set slot views by v (added event v) at in
+        let more = added_held slot (v.all ++ event ∷ []) held v.sights in omega (arith, change, more)
+
+    adds_kept : AreSlotsKept (set views by (added event v))
+    adds_kept = record {
+      keeper = kept.keeper;
+      all = longer;
+      each = adds_each;
+      once = λ slot. once_by event may slot (held_by slot (set views by (added event v))) (change_of slot);
+      free = λ slot unused_then. free_by event may slot (held_by slot (set views by (added event v)))
+          (sym (ap (λ (used : ℕ → Bool). used slot) (use_more kept.all event)) ∙ unused_then) (change_of slot);
+    }
+
+  cuts_kept : AreSlotsKept (set views by (left v) ++ given v ∷ [])
+  cuts_kept =
+      let mine = kept.each by v at in
+      let rest : FitsEvents kept.keeper kept.all by (left v) = (mine.0, rest_known kept.all v.sights mine.1) in
+      let other : (j : ℕ) → FitsEvents kept.keeper kept.all j (given v) =
+      λ j. ((λ k. absurd (off k)), only_known kept.all v.sights mine.1) in
+      let count : (slot : ℕ) → held_by slot (set views by (left v) ++ given v ∷ []) ≡ held_by slot views =
+      λ slot. let change = held_set slot views by v (left v) at in
+      let more = held_append slot (set views by (left v)) (given v ∷ []) in
+      let cut = cut_held slot v.sights in omega (arith, change, more, cut) in
+      record {
+        keeper = kept.keeper;
+        all = kept.all;
+        each = λ j u there. ⊎_elim
+            (λ was. fits_set kept.keeper kept.all views by (left v) (λ i x apart at'. kept.each i x at') rest j u was)
+            (λ (same : given v ≡ u). subst (FitsEvents kept.keeper kept.all j) same (other j))
+            (at_snoc (set views by (left v)) (given v) u j there);
+        once = λ slot. let same = count slot in let before = kept.once slot in omega (arith, same, before);
+        free = λ slot unused. let same = count slot in let before = kept.free slot unused in omega (arith, same, before);
+      }
+
+  joins_kept : (other : ℕ) (w : SlotView) → other ≢ by → get_elem? (set views by (joined v w)) other ≡ some w
+      → AreSlotsKept (set (set views by (joined v w)) other nobody)
+  joins_kept other w apart there =
+      let mine = kept.each by v at in
+      let before : get_elem? views other ≡ some w = sym (set_else views by other (joined v w) apart) ∙ there in
+      let theirs = kept.each other w before in
+      let both : FitsEvents kept.keeper kept.all by (joined v w) =
+      (mine.0, known_append kept.all w.sights v.sights theirs.1 mine.1) in
+      let count : (slot : ℕ) → held_by slot (set (set views by (joined v w)) other nobody) ≡ held_by slot views =
+      λ slot. let change = held_set slot views by v (joined v w) at in
+      let spent = held_set slot (set views by (joined v w)) other w nobody there in
+      let sum = held_in_append slot w.sights v.sights in omega (arith, change, spent, sum) in
+      record {
+        keeper = kept.keeper;
+        all = kept.all;
+        each = fits_set kept.keeper kept.all (set views by (joined v w)) other nobody
+            (λ j u _ at'. fits_set kept.keeper kept.all views by (joined v w) (λ i x _ at''. kept.each i x at'') both
+            j u at')
+            ((λ k. absurd (off k)), tt);
+        once = λ slot. let same = count slot in let old = kept.once slot in omega (arith, same, old);
+        free = λ slot unused. let same = count slot in let old = kept.free slot unused in omega (arith, same, old);
+      }
+
+-- ---- what the table asks
+
+abbrev holds : State SlotEvent SlotView → Type 0
+holds state = AreSlotsKept state.views
+
+pub opens : (words : List ℕ) → AreSlotsKept (slot_view true [] [] ∷ [])
+opens words = record {
+  keeper = 0;
+  all = [];
+  each = one;
+  once = λ slot. omega arith;
+  free = λ slot unused. refl;
+}
+  where
+    one : (by : ℕ) (v : SlotView) → get_elem? (slot_view true [] [] ∷ []) by ≡ some v → FitsEvents 0 [] by v
+    one zero v at = subst (FitsEvents 0 [] 0) (some-injective _ _ at) ((λ _. (refl, refl)), tt)
+    one (suc by) v at = absurd (some-ne-none v (sym at))
+
+pub begins : (slots id : ℕ) (me : Me SlotEvent SlotView)
+    → Allows holds slots id me 0 (λ n. n) (λ n after. after ≡ (begun me.0, me.1))
+begins slots id me state kept homes at bound =
+    (begun me.0, table.keeps, tt, begins_kept state.views kept id me.0 at, refl)
+
+pub shows : (slots id : ℕ) (me : Me SlotEvent SlotView) → me.0.keeps ≡ true
+    → Allows holds slots id me 0 (λ n. n) (λ n after. (after ≡ (shown me.0, me.1)) × AreKnown me.0.all me.0.sights)
+shows slots id me keeps state kept homes at bound = (
+  shown me.0,
+  table.keeps,
+  tt,
+  shows_kept state.views kept id me.0 at keeps,
+  (refl, tells state.views kept id me.0 at keeps),
+)
+
+pub checks : (slots id : ℕ) (me : Me SlotEvent SlotView) → me.0.keeps ≡ true
+    → Allows holds slots id me 0 (λ n. n) (λ n after. (after ≡ me) × AreKnown me.0.all me.0.sights)
+checks slots id me keeps state kept homes at bound = (
+  me.0,
+  table.keeps,
+  tt,
+  checks_kept state.views kept id me.0 at,
+  (refl, tells state.views kept id me.0 at keeps),
+)
+
+pub adds : (slots id : ℕ) (me : Me SlotEvent SlotView) (f : ℕ → ℕ) (event : SlotEvent) → me.0.keeps ≡ true
+    → MayHappen event me.0.all (first_in me.0.sights).held
+    → Allows holds slots id me 0 f (λ n after. (one : SlotEvent) × (some event ≡ some one)
+    × (after ≡ (added one me.0, me.1)) × AreKnown me.0.all me.0.sights)
+adds slots id me f event keeps may state kept homes at bound = (
+  added event me.0,
+  table.keeps,
+  tt,
+  adds_kept state.views kept id me.0 at event keeps may,
+  (event, refl, refl, tells state.views kept id me.0 at keeps),
+)
+
+pub cuts : (id : ℕ) (v : SlotView) → Splits holds id v (left v) (given v)
+cuts id v state kept at = cuts_kept state.views kept id v at
+
+pub joins : (id : ℕ) (v : SlotView) (other : ℕ) (w : SlotView) → Joins holds id v other w (joined v w) nobody
+joins id v other w state kept at apart there = joins_kept state.views kept id v at other w apart there

@@ -1,0 +1,177 @@
+-- What a connection has seen of a publisher, and what it is answered under the lock: PostgreSQL 15, "Logical
+-- Replication", 31.2.1 Replication Slot Management, and 55.4. Streaming Replication Protocol.
+use Rattle.std.specs.Prelude.{◌≡◌, ℕ, ◌+◌, List, [], ◌∷◌, ◌++◌, Option, Some, None}
+use Rattle.shard_checker.specs.CheckedView.{CheckedOf, setting_in}
+use Rattle.table_changes.specs.Tables.{no_rows}
+use Rattle.tables_log.specs.BookView.{book_slots}
+use Rattle.tables_log.specs.Commits.{CommitOf}
+use Rattle.tables_log.specs.Slots.{AreInUse}
+use Rattle.tables_log.specs.StandsFor.{AreAccepted, entries_from}
+use Rattle.tables_log.specs.declared.book.Book.{Book}
+use Rattle.publisher_desk.specs.Lending.{IsLent}
+use Rattle.publisher_desk.specs.Receipts.{ReceiptOf, transactions_of}
+use Rattle.publisher_desk.specs.Sights.{Sees, StartsWith}
+use Rattle.publisher_desk.specs.SlotEvents.{LeaveAlone, acquisitions, use_after}
+use Rattle.publisher_desk.specs.SlotSights.{AddsEvent, BeginsWith, SeesEvents, hold}
+use Rattle.publisher_desk.specs.declared.connection_state.ConnectionState.{ConnectionState}
+use Rattle.publisher_desk.specs.declared.sight.Sight.{Sight}
+use Rattle.publisher_desk.specs.declared.slot_event.Acquisition.{Acquisition}
+use Rattle.publisher_desk.specs.declared.slot_event.SlotEvent.{SlotEvent}
+use Rattle.publisher_desk.specs.declared.slot_event.SlotEvent.TheVariants.{Acquired, Released}
+use Rattle.publisher_desk.specs.declared.slot_sight.Hold.{Hold}
+use Rattle.publisher_desk.specs.declared.slot_sight.SlotSight.{SlotSight}
+
+-- The beginning of the log that a connection has seen, as receipts; the first events of slots, which it has seen; and
+-- the slot that it has.
+pub record ViewerOf : Type 0 where
+  pub seen : List ReceiptOf
+  pub events : List SlotEvent
+  pub held : Option Hold
+
+-- a connection that has seen nothing
+abbrev pub new_viewer : ViewerOf
+new_viewer = record { seen = []; events = []; held = None }
+
+-- It has seen what it had seen, and perhaps more.
+pub record SeesMore (old new : ViewerOf) : Type 0 where
+  pub log : StartsWith new.seen old.seen
+  pub slots : BeginsWith new.events old.events
+
+-- the entries of the log that it has seen
+abbrev pub log_seen : CheckedOf → List ReceiptOf → List CommitOf
+log_seen checked seen = entries_from (setting_in checked) no_rows 1 (transactions_of seen)
+
+-- each transaction of it was accepted after those before it
+abbrev pub IsAcceptedLog : CheckedOf → List ReceiptOf → Type 0
+IsAcceptedLog checked seen = AreAccepted (setting_in checked) no_rows (transactions_of seen)
+
+-- ---- a use of the slots
+
+-- what a connection has seen, and has, after it acquired a slot or did not
+abbrev pub events_with : Option Acquisition → List SlotEvent → List SlotEvent
+events_with None events = events
+events_with (Some one) events = events ++ Acquired one ∷ []
+
+abbrev pub held_with : Option Acquisition → ℕ → Option Hold → Option Hold
+held_with None number held = held
+held_with (Some one) number held = Some (hold one number)
+
+-- The connection was lent a book of the log that it has then seen. Before it used the book, the slots in use were those
+-- after these events. If it acquired a slot, this was the acquisition of this number.
+pub record IsUsed {U A : Type 0}
+    (did : U → U → Book → Book → List ConnectionState → List ConnectionState → ℕ → Option Acquisition → A → Type 0)
+    (checked : CheckedOf) (old new : ViewerOf) (before after : U) (answer : A) : Type 0 where
+  pub number : ℕ
+  pub acquired : Option Acquisition
+  pub lent : IsLent (λ user left book changed connections others it.
+      did user left book changed connections others number acquired it) checked before after answer
+  pub log_is : transactions_of new.seen ≡ lent.transactions
+  pub events : List SlotEvent
+  pub used : AreInUse (use_after events) (book_slots lent.old)
+  pub number_is : number ≡ acquisitions events + 1
+  pub events_are : new.events ≡ events_with acquired events
+  pub held_is : new.held ≡ held_with acquired number old.held
+
+-- Nothing was done.
+pub record IsUnused {U : Type 0} (old new : ViewerOf) (before after : U) : Type 0 where
+  pub viewer : new ≡ old
+  pub user : after ≡ before
+
+abbrev pub IsUsedIf : {U A : Type 0}
+    → (U → U → Book → Book → List ConnectionState → List ConnectionState → ℕ → Option Acquisition → A → Type 0)
+    → CheckedOf → ViewerOf → ViewerOf → U → U → Option A → Type 0
+IsUsedIf did checked old new before after None = IsUnused old new before after
+IsUsedIf did checked old new before after (Some answer) = IsUsed did checked old new before after answer
+
+-- ---- a release
+
+-- The stream acquired its slot, and released it; no event between these is of the slot.
+pub record HadSlot (events : List SlotEvent) (held : Hold) : Type 0 where
+  pub before : List SlotEvent
+  pub between : List SlotEvent
+  pub after : List SlotEvent
+  pub events_are : events
+      ≡ before ++ Acquired held.acquisition ∷ between ++ Released held.acquisition.slot ∷ after
+  pub number_is : held.number ≡ acquisitions before + 1
+  pub alone : LeaveAlone held.acquisition.slot between
+
+-- the connection has this slot
+pub record Holds (held : Option Hold) (slot : ℕ) : Type 0 where
+  pub mine : Hold
+  pub held_is : held ≡ Some mine
+  pub slot_is : mine.acquisition.slot ≡ slot
+
+-- It has released the slot that it had.
+pub record HasReleased (old new : ViewerOf) : Type 0 where
+  pub mine : Hold
+  pub was : old.held ≡ Some mine
+  pub had : HadSlot new.events mine
+  pub none : new.held ≡ None
+
+-- ---- a publisher that is being closed
+
+-- its log, as receipts, and the events of its slots
+pub record ClosingOf : Type 0 where
+  pub log : List ReceiptOf
+  pub events : List SlotEvent
+
+-- What the connection has seen is a beginning of these, and its slot is still its own.
+pub record IsSeenIn (closing : ClosingOf) (viewer : ViewerOf) : Type 0 where
+  pub log : StartsWith closing.log viewer.seen
+  pub slots : BeginsWith closing.events viewer.events
+
+-- ---- under the lock
+
+-- The connection has then seen the whole log, which has these entries, and all events.
+pub record IsShown (checked : CheckedOf) (entries : List CommitOf) (old new : Sight) (was now : SlotSight) : Type 0
+  where
+    pub log : List ReceiptOf
+    pub sees : Sees log old new
+    pub entries_are : entries ≡ log_seen checked log
+    pub accepted : IsAcceptedLog checked log
+    pub events : List SlotEvent
+    pub shows : SeesEvents events was now
+
+-- The connection has then seen the whole log.
+pub record SeesLog (checked : CheckedOf) (old new : Sight) : Type 0 where
+  pub log : List ReceiptOf
+  pub sees : Sees log old new
+  pub accepted : IsAcceptedLog checked log
+
+-- It has then seen all events, the last of which is this release.
+pub record Releases (slot : ℕ) (was now : SlotSight) : Type 0 where
+  pub events : List SlotEvent
+  pub adds : AddsEvent events (Released slot) was now
+
+-- It has seen all events, and then what it acquired.
+abbrev pub ChangesSight : Option Acquisition → List SlotEvent → SlotSight → SlotSight → Type 0
+ChangesSight None events was now = SeesEvents events was now
+ChangesSight (Some one) events was now = AddsEvent events (Acquired one) was now
+
+-- What was lent is of a log that the connection has then seen.
+pub record IsStreamed {U A : Type 0}
+    (did : U → U → Book → Book → List ConnectionState → List ConnectionState → ℕ → Option Acquisition → A → Type 0)
+    (checked : CheckedOf) (before after : U) (old new : Sight) (was now : SlotSight) (answer : A) : Type 0 where
+  pub number : ℕ
+  pub acquired : Option Acquisition
+  pub lent : IsLent (λ user left book changed connections others it.
+      did user left book changed connections others number acquired it) checked before after answer
+  pub log : List ReceiptOf
+  pub sees : Sees log old new
+  pub log_is : transactions_of log ≡ lent.transactions
+  pub events : List SlotEvent
+  pub used : AreInUse (use_after events) (book_slots lent.old)
+  pub number_is : number ≡ acquisitions events + 1
+  pub changes : ChangesSight acquired events was now
+
+pub record IsNotStreamed {U : Type 0} (before after : U) (old new : Sight) (was now : SlotSight) : Type 0 where
+  pub user : after ≡ before
+  pub log : new ≡ old
+  pub slots : now ≡ was
+
+abbrev pub IsStreamedIf : {U A : Type 0}
+    → (U → U → Book → Book → List ConnectionState → List ConnectionState → ℕ → Option Acquisition → A → Type 0)
+    → CheckedOf → U → U → Sight → Sight → SlotSight → SlotSight → Option A → Type 0
+IsStreamedIf did checked before after old new was now None = IsNotStreamed before after old new was now
+IsStreamedIf did checked before after old new was now (Some answer) =
+    IsStreamed did checked before after old new was now answer

@@ -1,0 +1,21 @@
+//! What happens to slots.
+
+use tables_log::{Lsn, SlotNumber};
+
+/// A slot that was acquired for a stream: where the stream starts, and whether its client requested that position, which
+/// is after what was confirmed for the slot.
+#[derive(Clone, Copy, Debug, PartialEq, Eq)]
+pub struct Acquisition {
+    pub slot: SlotNumber,
+    pub start: Lsn,
+    pub is_requested: bool,
+}
+
+/// What happens to a slot: a stream acquires it, or releases it.
+///
+/// PostgreSQL 15, 27.2.6 Replication Slots.
+#[derive(Clone, Copy, Debug, PartialEq, Eq)]
+pub enum SlotEvent {
+    Acquired(Acquisition),
+    Released(SlotNumber),
+}

@@ -1,0 +1,189 @@
+-- What the result of a connection says of its commits and of its slot.
+use Rattle.std.proofs.Common.{◌≡◌, ◌⊎◌, ℕ, ◌≤◌, List, [], ◌++◌, length, map, append_assoc, refl, sym, ◌∙◌, ap, subst, inl, inr, arith}
+use Rattle.std.specs.Prelude.{Bool, false, unwrap_or, Option, Some, None}
+use Rattle.std.specs.Arc.{arc_value}
+use Rattle.std.proofs.lemmas.List.{length-map}
+use Rattle.shard_checker.specs.CheckedView.{CheckedOf}
+use Rattle.tables_log.specs.Lsn.{commits_before, end_lsn_of}
+use Rattle.copy_both.specs.VoiceLaws.{AreAt}
+use Rattle.copy_both.proofs.StartBounds.{start_within}
+use Rattle.publisher_desk.specs.Receipts.{ReceiptOf, transaction_of}
+use Rattle.publisher_desk.specs.Sights.{StartsWith}
+use Rattle.publisher_desk.specs.SlotSights.{hold}
+use Rattle.publisher_desk.specs.Viewers.{HadSlot, Holds, IsAcceptedLog, SeesMore, ViewerOf, log_seen, new_viewer}
+use Rattle.publisher_desk.specs.declared.slot_sight.Hold.{Hold}
+use Rattle.senders.specs.Listening.{HasListened, HoldsStream}
+use Rattle.senders.specs.Results.{HadStream, IsWitnessed, acquisition, books_seen, commits_of, served_of}
+use Rattle.senders.specs.Running.{EndedAtOnce, ReleasesIf, ServesOut, Streamed, Unstarted}
+use Rattle.senders.specs.Serving.{IsServed}
+use Rattle.senders.specs.declared.listener.Listener.{Listener}
+use Rattle.senders.specs.declared.outcome.Outcome.{Outcome}
+use Rattle.senders.proofs.BeginningLemmas.{at_in_log}
+use Rattle.senders.proofs.RefusedLemmas.{served_refused}
+use Rattle.senders.proofs.SeenLogs.{logged_at, sees_same}
+use Rattle.senders.proofs.ServingLemmas.{EndsStream, at_once, by_listener}
+
+-- ---- a connection that started no stream
+
+pub record EndsUnstarted (checked : CheckedOf) (last : ViewerOf) (left now_left : Option (List ℕ))
+    (source_failed source_ended : Bool) (before after : Option (List ℕ)) (sink_failed : Bool) (new : Listener)
+    (outcome : Outcome) (is_requested : Bool) (number : ℕ) : Type 0 where
+  pub no_slot : outcome.slot ≡ None
+  pub no_start : outcome.start ≡ None
+  pub none : outcome.taken.items ≡ []
+  pub unnumbered : new.number ≡ 0
+  pub served : IsServed checked left now_left source_failed source_ended before after sink_failed
+      (served_of outcome is_requested number last)
+
+witnessed_unstarted : (checked : CheckedOf) (last : ViewerOf) (outcome : Outcome) (is_requested : Bool) (number : ℕ)
+    → IsAcceptedLog checked last.seen → outcome.slot ≡ None → outcome.start ≡ None → outcome.taken.items ≡ []
+    → number ≡ 0 → IsWitnessed checked (served_of outcome is_requested number last)
+witnessed_unstarted checked last outcome is_requested number accepted no_slot no_start none unnumbered = record {
+  accepted = accepted;
+  within = subst (λ (start : Option ℕ). commits_before (unwrap_or start 0) ≤ length last.seen) (sym no_start)
+      (omega arith);
+  taken = subst (AreAt (log_seen checked last.seen) (commits_before (unwrap_or outcome.start 0)))
+      (sym (ap (map (λ commit. arc_value commit)) none)) tt;
+  had = subst (λ (slot : Option ℕ). HadStream slot outcome.start is_requested number last.events) (sym no_slot)
+      (subst (λ (start : Option ℕ). HadStream None start is_requested number last.events) (sym no_start) unnumbered);
+}
+
+pub witnessed_nothing : (checked : CheckedOf) (outcome : Outcome) → outcome.slot ≡ None → outcome.start ≡ None
+    → outcome.taken.items ≡ [] → IsWitnessed checked (served_of outcome false 0 new_viewer)
+witnessed_nothing checked outcome no_slot no_start none =
+    witnessed_unstarted checked new_viewer outcome false 0 tt no_slot no_start none refl
+
+-- ---- a connection that started a stream
+
+-- a start that is not after the end of the log
+before_end : (start count : ℕ) → start ≤ end_lsn_of count → commits_before start ≤ count
+before_end start count low = omega (arith, low)
+
+module _ (checked : CheckedOf) (now between last sender : ViewerOf) (left now_left : Option (List ℕ))
+    (source_failed source_ended : Bool) (before after : Option (List ℕ)) (sink_failed : Bool) (new : Listener)
+    (outcome : Outcome) (is_requested : Bool) (number : ℕ) (said : is_requested ≡ new.is_requested)
+    (numbered : number ≡ new.number) (held : between.held ≡ now.held)
+    (ends : EndsStream checked now last left now_left source_failed source_ended before after sink_failed new outcome
+    is_requested number sender) where
+  within_log : commits_before ends.start ≤ length last.seen
+  within_log =
+      before_end ends.start (length last.seen)
+      (subst (λ (count : ℕ). ends.start ≤ end_lsn_of count)
+      (length-map last.seen transaction_of)
+      (start_within checked (books_seen last) ends.frames ends.slot ends.start ends.asks))
+
+  had_stream : ReleasesIf (Some ends.slot) between last
+      → HadSlot last.events (hold (acquisition ends.slot ends.start is_requested) number)
+  had_stream released =
+      let same : Some released.0.mine ≡ Some (hold (acquisition ends.slot ends.start new.is_requested) new.number) =
+      sym released.0.was ∙ (held ∙ ends.holding) in
+      let mine : released.0.mine ≡ hold (acquisition ends.slot ends.start new.is_requested) new.number = cc in
+      let saying : hold (acquisition ends.slot ends.start new.is_requested) new.number
+      ≡ hold (acquisition ends.slot ends.start is_requested) number =
+      ap (λ (b : Bool). hold (acquisition ends.slot ends.start b) new.number) (sym said)
+      ∙ ap (λ (n : ℕ). hold (acquisition ends.slot ends.start is_requested) n) (sym numbered) in
+      subst (HadSlot last.events) (mine ∙ saying) released.0.had
+
+  witnessed_stream : StartsWith last.seen sender.seen → IsAcceptedLog checked last.seen
+      → ReleasesIf outcome.slot between last → IsWitnessed checked (served_of outcome is_requested number last)
+  witnessed_stream begins accepted released = record {
+    accepted = accepted;
+    within = subst (λ (start : Option ℕ). commits_before (unwrap_or start 0) ≤ length last.seen) (sym ends.start_is)
+        within_log;
+    taken = subst (λ (start : Option ℕ). AreAt (log_seen checked last.seen) (commits_before (unwrap_or start 0))
+        (commits_of outcome)) (sym ends.start_is)
+        (at_in_log checked last.seen sender.seen (commits_before ends.start) (commits_of outcome) begins
+        (logged_at checked sender.seen (commits_before ends.start) (commits_of outcome) ends.follow ends.logged.logged));
+    had = subst (λ (slot : Option ℕ). HadStream slot outcome.start is_requested number last.events) (sym ends.slot_is)
+        (subst (λ (start : Option ℕ). HadStream (Some ends.slot) start is_requested number last.events)
+        (sym ends.start_is)
+        (had_stream (subst (λ (slot : Option ℕ). ReleasesIf slot between last) ends.slot_is released)));
+  }
+
+-- ---- either
+
+pub sees_if : (slot : Option ℕ) (old new : ViewerOf) → ReleasesIf slot old new → SeesMore old new
+sees_if None old new same = subst (SeesMore old) (sym same) (sees_same old)
+sees_if (Some slot) old new released = released.1
+
+-- what it has seen goes on what another has
+pub starts_on : (old new other : ViewerOf) → SeesMore old new → StartsWith old.seen other.seen
+    → StartsWith new.seen other.seen
+starts_on old new other more begins = (
+  begins.0 ++ more.log.0,
+  more.log.1 ∙ (ap (λ (list : List ReceiptOf). list ++ more.log.0) begins.1
+      ∙ append_assoc other.seen begins.0 more.log.0),
+)
+
+module _ (checked : CheckedOf) (was now last : ViewerOf) (sees : SeesMore now last) (left now_left : Option (List ℕ))
+    (source_failed source_ended : Bool) (before after : Option (List ℕ)) (sink_failed : Bool) (old new : Listener)
+    (fresh : HasListened checked was [] old) (sender : ViewerOf) (outcome : Outcome) (is_requested : Bool)
+    (number : ℕ) (said : is_requested ≡ new.is_requested) where
+  abbrev Ending : Type 0
+  Ending =
+      EndsUnstarted checked last left now_left source_failed source_ended before after sink_failed new outcome
+      is_requested number
+      ⊎ EndsStream checked now last left now_left source_failed source_ended before after sink_failed new outcome
+      is_requested number sender
+
+  ending : ServesOut checked was now left now_left source_failed source_ended before after sink_failed old new sender
+      outcome → Ending
+  ending (Unstarted why at answers no_slot no_start none same) =
+      let ends = at.hears.ends [] fresh in
+      inl (record {
+        no_slot = no_slot;
+        no_start = no_start;
+        none = none;
+        unnumbered = (subst (λ (o : Option (ℕ × ℕ)). HoldsStream o new.is_requested new.number now.held)
+            at.started_is ends.holding).1;
+        served = served_refused checked was now last left now_left source_failed source_ended before after sink_failed
+            old new outcome is_requested number why sees fresh at answers no_slot no_start none same;
+      })
+  ending (EndedAtOnce started why at streams logged) =
+      inr (at_once checked was now last sees left now_left source_failed source_ended before after sink_failed old new
+      fresh outcome is_requested number said sender started why at streams logged)
+  ending (Streamed started between middle_left middle on runs logged) =
+      inr (by_listener checked was now last sees left now_left source_failed source_ended before after sink_failed old
+      new fresh outcome is_requested number said sender between middle_left middle started on runs.why runs.hears
+      runs.streams logged)
+
+  served_at : Ending → IsServed checked left now_left source_failed source_ended before after sink_failed
+      (served_of outcome is_requested number last)
+  served_at (inl ends) = ends.served
+  served_at (inr ends) = ends.served
+
+  -- the slot of its stream is its own
+  holds_at : (held : Option Hold) → held ≡ now.held → Ending → (slot : ℕ) → outcome.slot ≡ Some slot → Holds held slot
+  holds_at held same (inl ends) slot some = absurd (let no : None ≡ Some slot = sym ends.no_slot ∙ some in cc)
+  holds_at held same (inr ends) slot some =
+      let one : Some ends.slot ≡ Some slot = sym ends.slot_is ∙ some in
+      record {
+        mine = hold (acquisition ends.slot ends.start new.is_requested) new.number;
+        held_is = same ∙ ends.holding;
+        slot_is = cc;
+      }
+
+  witnessed_at : (between : ViewerOf) → between.held ≡ now.held → number ≡ new.number
+      → StartsWith last.seen sender.seen → IsAcceptedLog checked last.seen → ReleasesIf outcome.slot between last
+      → Ending → IsWitnessed checked (served_of outcome is_requested number last)
+  witnessed_at between held numbered begins accepted released (inl ends) =
+      witnessed_unstarted checked last outcome is_requested number accepted ends.no_slot ends.no_start ends.none
+      (numbered ∙ ends.unnumbered)
+  witnessed_at between held numbered begins accepted released (inr ends) =
+      witnessed_stream checked now between last sender left now_left source_failed source_ended before after sink_failed
+      new outcome is_requested number said numbered held ends begins accepted released
+
+  module _ (serves : ServesOut checked was now left now_left source_failed source_ended before after sink_failed old new
+      sender outcome) where
+    pub served_by : IsServed checked left now_left source_failed source_ended before after sink_failed
+        (served_of outcome is_requested number last)
+    served_by = served_at (ending serves)
+
+    pub holds_by : (held : Option Hold) → held ≡ now.held → (slot : ℕ) → outcome.slot ≡ Some slot → Holds held slot
+    holds_by held same = holds_at held same (ending serves)
+
+    pub witnessed_by : (between : ViewerOf) → between.held ≡ now.held → number ≡ new.number
+        → StartsWith last.seen sender.seen → IsAcceptedLog checked last.seen → ReleasesIf outcome.slot between last
+        → IsWitnessed checked (served_of outcome is_requested number last)
+    witnessed_by between held numbered begins accepted released =
+        witnessed_at between held numbered begins accepted released (ending serves)

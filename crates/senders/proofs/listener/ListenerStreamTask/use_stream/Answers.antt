@@ -1,0 +1,75 @@
+use Rattle.std.proofs.Common.{◌≡◌, ◌∙◌, ◌<◌, ℕ, List, Option, ap, is_some, length, refl, slice_index, subst, sym, take, arith}
+use Rattle.filter_tree.specs.Memory.{Answers}
+use Rattle.tables_log.specs.BookView.{book_log, book_slots}
+use Rattle.tables_log.specs.Lsn.{end_lsn_of}
+use Rattle.tables_log.specs.Slots.{confirmed_at}
+use Rattle.copy_both.specs.Ears.{HearLeaves, ear_phase, ear_started, hear_answer}
+use Rattle.copy_both.specs.Voices.{reported_fault}
+use Rattle.copy_both.specs.declared.ear.Ear.{Ear}
+use Rattle.copy_both.proofs.StartUses.{starts_take_slots}
+use Rattle.senders.specs.Hearing.{IsSentFrom, sent_by}
+use Rattle.senders.specs.Listening.{piece_of}
+use Rattle.senders.proofs.StartingLemmas.{acquires_for, compares_by, ear_kept, may_acquire, room_kept}
+use Rattle.senders.proofs.listener.ListenerStreamTask.use_stream.Goals as goal
+
+module _ (c : goal.Joined-stream) where
+  positions : (slot : ℕ) → slot < length c.confirmed_positions-confirmed.result
+      → slice_index c.confirmed_positions-confirmed.result slot ≡ confirmed_at (book_slots c.args.book.now) slot
+  positions slot low = c.confirmed_positions-confirmed.ensures slot
+      (omega (arith, low))
+
+  piece_heard : take c.args.self.now.filled c.deref.result.now ≡ piece_of c.args.self.now
+  piece_heard = ap (take c.args.self.now.filled) c.deref.ensures.value
+
+  sent_heard : c.sent_position-sent.result ≡ sent_by (ear_started c.args.self.now.ear) c.args.connections.now
+  sent_heard = c.sent_position-sent.ensures
+      ∙ ap (λ (started : Option (ℕ × ℕ)). sent_by started c.args.connections.now) c.stream-2.ensures
+
+pub returns-clause-did : goal.returns-clause-did
+returns-clause-did c =
+    let was_is = c.is_some-was_started.ensures ∙ ap is_some c.stream.ensures in
+    let same = ear_kept c.args.self.now _ c.acquire-acquired.new.self c.args.book.now c.hear_piece-heard.new.book
+    c.is_some-was_started.result c.confirmed_positions-confirmed.result c.args.number was_is (positions c) refl refl
+    c.acquire-acquired.result c.acquire-acquired.ensures in
+    let compares = compares_by c.args.self.now _ c.acquire-acquired.new.self c.args.book.now c.hear_piece-heard.new.book
+    c.is_some-was_started.result c.confirmed_positions-confirmed.result c.args.number was_is (positions c) refl refl
+    c.acquire-acquired.result c.acquire-acquired.ensures in (
+      record {
+        answer = subst (λ (piece : List ℕ). Answers (λ heard. heard) reported_fault (hear_answer c.args.self.now.ear
+            c.args.book.now piece (sent_by (ear_started c.args.self.now.ear) c.args.connections.now))
+            c.hear_piece-heard.result) (piece_heard c)
+            (subst (λ (sent : ℕ). Answers (λ heard. heard) reported_fault (hear_answer c.args.self.now.ear
+            c.args.book.now (take c.args.self.now.filled c.deref.result.now) sent) c.hear_piece-heard.result)
+            (sent_heard c) c.hear_piece-heard.ensures.answer);
+        left = subst (λ (ear : Ear). HearLeaves (ear_phase c.args.self.now.ear) c.args.self.now.ear ear c.args.book.now
+            c.hear_piece-heard.new.book (piece_of c.args.self.now)
+            (sent_by (ear_started c.args.self.now.ear) c.args.connections.now) c.hear_piece-heard.result) (sym same)
+            (subst (λ (piece : List ℕ). HearLeaves (ear_phase c.args.self.now.ear) c.args.self.now.ear
+            c.hear_piece-heard.new.ear c.args.book.now c.hear_piece-heard.new.book piece
+            (sent_by (ear_started c.args.self.now.ear) c.args.connections.now) c.hear_piece-heard.result)
+            (piece_heard c)
+            (subst (λ (sent : ℕ). HearLeaves (ear_phase c.args.self.now.ear) c.args.self.now.ear
+            c.hear_piece-heard.new.ear c.args.book.now c.hear_piece-heard.new.book
+            (take c.args.self.now.filled c.deref.result.now) sent c.hear_piece-heard.result)
+            (sent_heard c) c.hear_piece-heard.ensures.left));
+        reaches = λ ahead. subst (λ (ear : Ear). IsSentFrom (ear_started ear)
+            (end_lsn_of (length (book_log c.args.book.now)))) (sym same)
+            (c.hear_piece-heard.ensures.reaches ahead);
+        room = room_kept c.args.self.now _ c.acquire-acquired.new.self c.args.book.now c.hear_piece-heard.new.book
+            c.is_some-was_started.result c.confirmed_positions-confirmed.result c.args.number was_is (positions c) refl
+            refl c.acquire-acquired.result c.acquire-acquired.ensures;
+        compares = record { late = compares.late; stays = compares.stays };
+      },
+      acquires_for c.args.self.now _ c.acquire-acquired.new.self c.args.book.now c.hear_piece-heard.new.book
+          c.is_some-was_started.result c.confirmed_positions-confirmed.result c.args.number was_is (positions c) refl
+          refl c.acquire-acquired.result c.acquire-acquired.ensures,
+    )
+
+pub returns-clause-acquires : goal.returns-clause-acquires
+returns-clause-acquires c =
+    let was_is = c.is_some-was_started.ensures ∙ ap is_some c.stream.ensures in
+    may_acquire c.args.self.now _ c.acquire-acquired.new.self c.args.book.now c.hear_piece-heard.new.book
+    c.is_some-was_started.result c.confirmed_positions-confirmed.result c.args.number was_is (positions c) refl refl
+    c.acquire-acquired.result c.acquire-acquired.ensures
+    (starts_take_slots c.args.self.now.ear c.hear_piece-heard.new.ear c.args.book.now c.hear_piece-heard.new.book
+    _ _ c.hear_piece-heard.result c.hear_piece-heard.ensures.left)

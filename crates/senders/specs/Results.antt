@@ -1,0 +1,71 @@
+-- What contracts see of the result of a connection: the stream that it started, the commits that were taken for it, and
+-- what it has seen of its publisher: PostgreSQL 15, 55.4. Streaming Replication Protocol.
+use Rattle.std.specs.Prelude.{◌≡◌, ℕ, ◌≤◌, Bool, List, length, map, unwrap_or, Option, Some, None}
+use Rattle.std.specs.Arc.{arc_value}
+use Rattle.shard_checker.specs.CheckedView.{CheckedOf}
+use Rattle.tables_log.specs.Commits.{CommitOf}
+use Rattle.tables_log.specs.Lsn.{commits_before}
+use Rattle.copy_both.specs.HeardFrames.{BooksOf}
+use Rattle.copy_both.specs.VoiceLaws.{AreAt}
+use Rattle.publisher_desk.specs.Receipts.{transactions_of}
+use Rattle.publisher_desk.specs.SlotEvents.{uses_in}
+use Rattle.publisher_desk.specs.SlotSights.{hold}
+use Rattle.publisher_desk.specs.Viewers.{HadSlot, IsAcceptedLog, ViewerOf, log_seen}
+use Rattle.publisher_desk.specs.declared.slot_event.Acquisition.{Acquisition}
+use Rattle.publisher_desk.specs.declared.slot_event.SlotEvent.{SlotEvent}
+use Rattle.senders.specs.declared.end.End.{End}
+use Rattle.senders.specs.declared.outcome.Outcome.{Outcome}
+
+-- `number` is that of the acquisition of its slot, from 1; 0 if it started no stream.
+pub record ServedOf : Type 0 where
+  pub slot : Option ℕ
+  pub start : Option ℕ
+  pub is_requested : Bool
+  pub taken : List CommitOf
+  pub end : End
+  pub number : ℕ
+  pub viewer : ViewerOf
+
+-- the commits that were taken
+abbrev pub commits_of : Outcome → List CommitOf
+commits_of outcome = map (λ commit. arc_value commit) outcome.taken.items
+
+abbrev pub served_of : Outcome → Bool → ℕ → ViewerOf → ServedOf
+served_of outcome is_requested number viewer = record {
+  slot = outcome.slot;
+  start = outcome.start;
+  is_requested = is_requested;
+  taken = commits_of outcome;
+  end = outcome.end;
+  number = number;
+  viewer = viewer;
+}
+
+-- how many commits of the log begin before its start; none where it has no start
+abbrev pub taken_from : ServedOf → ℕ
+taken_from served = commits_before (unwrap_or served.start 0)
+
+-- ---- what it has seen
+
+-- the books that its publisher has had, as far as it has seen
+abbrev pub books_seen : ViewerOf → BooksOf
+books_seen viewer = record { log = transactions_of viewer.seen; uses = uses_in viewer.events }
+
+abbrev pub acquisition : ℕ → ℕ → Bool → Acquisition
+acquisition slot start is_requested = record { slot = slot; start = start; is_requested = is_requested }
+
+-- It had the slot of its stream, and released it; or it started none.
+abbrev pub HadStream : Option ℕ → Option ℕ → Bool → ℕ → List SlotEvent → Type 0
+HadStream (Some slot) (Some start) is_requested number events =
+    HadSlot events (hold (acquisition slot start is_requested) number)
+HadStream None None is_requested number events = number ≡ 0
+HadStream (Some slot) None is_requested number events = ⊥
+HadStream None (Some start) is_requested number events = ⊥
+
+-- The commits that were taken for it are those of the log that it has seen, from its start on, which is not after that
+-- log's end. It had its slot.
+pub record IsWitnessed (checked : CheckedOf) (served : ServedOf) : Type 0 where
+  pub accepted : IsAcceptedLog checked served.viewer.seen
+  pub within : taken_from served ≤ length served.viewer.seen
+  pub taken : AreAt (log_seen checked served.viewer.seen) (taken_from served) served.taken
+  pub had : HadStream served.slot served.start served.is_requested served.number served.viewer.events
