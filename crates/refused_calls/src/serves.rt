@@ -34,7 +34,7 @@ fn serve_query<P: Publishing + Sync, R: Threads + Wait + Clock + Sync>(
     query: &[u8],
     wanted: usize,
     number: u16,
-) -> Result<(Served, Vec<u8>, bool)> {
+) -> Result<(Served<P>, Vec<u8>, bool)> {
     let getting = Getting::new(wanted);
     let mut reader = Asking::new(rt, alloc, &getting, query);
     let mut writer = Kept::new(alloc, &getting)?;
@@ -47,13 +47,13 @@ fn serve_query<P: Publishing + Sync, R: Threads + Wait + Clock + Sync>(
 
 /// Checks that the connection started where the subscriber was, if it started, and was ended by its client or because
 /// all commits were taken, whichever came first, or because memory ran out if a request was refused.
-fn check_served(served: &Served, from: u64, was_refused: bool) -> Result<()> {
-    let Served { start, end, .. } = served;
+fn check_served<P: Publishing>(served: &Served<P>, from: u64, was_refused: bool) -> Result<()> {
+    let (start, end) = (served.start(), served.end());
     ensure!(
         start.unwrap_or(from) == from,
         "the stream starts at {start:?}"
     );
-    let is_refusal = was_refused && *end == End::Link(LinkFault::OutOfMemory);
+    let is_refusal = was_refused && end == End::Link(LinkFault::OutOfMemory);
     ensure!(
         is_refusal || matches!(end, End::Client | End::Finished),
         "the connection ends by {end:?}"
@@ -69,7 +69,7 @@ fn connect<P: Publishing + Sync, R: Threads + Wait + Clock + Sync>(
     publisher: &Publisher<P>,
     subscriber: &mut Subscriber,
     number: u16,
-) -> Result<(Served, bool)> {
+) -> Result<(Served<P>, bool)> {
     let wanted = stream(alloc, &mut whole(alloc)?, subscriber)?.len();
     let from = position(subscriber);
     open(subscriber)?;
@@ -87,7 +87,7 @@ fn connect_twice<P: Publishing + Sync, R: Threads + Wait + Clock + Sync>(
     alloc: Global,
     publisher: &Publisher<P>,
     number: u16,
-) -> Result<(Vec<Served>, bool)> {
+) -> Result<(Vec<Served<P>>, bool)> {
     let mut subscriber = subscriber(alloc)?;
     let mut list = Vec::new(alloc);
     let (first, was_refused) = connect(rt, alloc, publisher, &mut subscriber, number)?;
@@ -122,6 +122,7 @@ fn publish<P: Publishing + Sync, R: Threads + Wait + Clock + Sync>(
     requires parts { opening.parts ≡ P.parts }
     requires seats { opening.parts ≡ 1000 }
     requires history { opening.history ≡ P.history }
+    requires slots { opening.slots ≡ P.slots }
     requires checked { checked_view (arc_value checked) ≡ P.checked }
     requires limit { 5 ≡ P.limit }
 {

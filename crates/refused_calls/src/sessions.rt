@@ -41,7 +41,7 @@ pub fn check_closes<P: Publishing>(
     publisher: Publisher<P>,
     rest: Seats<P>,
     seat: Seat<P>,
-    served: Vec<Served>,
+    served: Vec<Served<P>>,
 ) -> Result<()> {
     let mut seats = Vec::new(alloc);
     seats.push(seat)?;
@@ -92,6 +92,7 @@ fn publish<P: Publishing, R: Wait>(
     requires parts { opening.parts ≡ P.parts }
     requires seats { opening.parts ≡ 1000 }
     requires history { opening.history ≡ P.history }
+    requires slots { opening.slots ≡ P.slots }
     requires checked { checked_view (arc_value checked) ≡ P.checked }
     requires limit { 5 ≡ P.limit }
 {

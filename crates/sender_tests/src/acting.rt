@@ -1,6 +1,6 @@
 //! A session that acts as a round says.
 
-use crate::board::{Board, TURNS, rest};
+use crate::board::{Board, GRACE, TURNS, rest};
 use crate::rounds::Act;
 use crate::work::{Work, row_of};
 use publisher_desk::{ConnectionState, SlotTask};
@@ -11,9 +11,6 @@ use std::thread;
 use std::time::{Clock, Duration};
 use table_changes::Command;
 use tables_log::Book;
-
-/// For how many milliseconds a session waits when the publisher is finished.
-const GRACE: u64 = 20;
 
 /// Looks whether the connection of a slot has ended.
 #[derive(Drop)]

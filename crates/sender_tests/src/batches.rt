@@ -49,7 +49,11 @@ pub(crate) fn expect_batches<P: Publishing + Sync, R: Threads + Wait + Clock + A
     let mut reader = Asking::new(rt, &board, 0, 1_001, query.as_slice());
     let mut writer = Kept::new(rt, &board, 0, usize::MAX, usize::MAX);
     let served = serve(rt, publisher, &mut reader, &mut writer, &OpenGate);
-    same(rt, (served.end, served.taken.len()), (End::Client, 1_000));
+    same(
+        rt,
+        (served.end(), served.taken().len()),
+        (End::Client, 1_000),
+    );
     same(rt, writer.pushes, 4);
     holds(rt, writer.longest < 65_536 + 200);
     holds(rt, board.is_fine());

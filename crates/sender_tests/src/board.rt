@@ -10,6 +10,9 @@ use std::time::{Clock, Duration};
 /// How often a thread looks before it gives up.
 pub(crate) const TURNS: u32 = 1_000_000;
 
+/// How many milliseconds senders are given to see that the publisher is finished.
+pub(crate) const GRACE: u64 = 20;
+
 /// The progress of a client whose writer failed: as much as anybody may wait for.
 pub(crate) const LOST: u64 = u64::MAX;
 

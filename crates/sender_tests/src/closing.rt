@@ -1,190 +1,177 @@
 //! Publishers that are closed, and that cannot be.
 
-use crate::checks::same;
-use crate::work::{Work, key_of};
-use publisher_desk::SenderStep;
-use senders::{CloseError, End, Publisher, Publishing, Seat, Seats, Served, close};
-use std::alloc::{AllocError, Global};
+use crate::board::Board;
+use crate::cases::{Case, Step};
+use crate::checks::{holds, same};
+use crate::devices::{Kept, Staying};
+use crate::memory::query;
+use crate::sessions::take_seats;
+use crate::work::{Hold, Work, key_of};
+use publisher_desk::{ConnectionState, SlotTask};
+use senders::{End, OpenGate, Publisher, Publishing, Seat, Seats, Served, close, serve};
+use std::alloc::Global;
 use std::process::Abort;
-use std::sync::{Arc, Wait};
+use std::sync::Wait;
 use std::test::Fail;
-use tables_log::Commit;
+use std::thread::Threads;
+use std::time::Clock;
+use tables_log::{Book, Lsn};
 
-/// What a publisher is closed with.
-#[derive(Clone, Copy, Debug, PartialEq, Eq)]
-pub(crate) enum Lacks {
-    /// No commits, seats or connections.
-    All,
-    /// Two commits, and not their seat.
-    Seat,
-    /// Two commits, and a finished connection that took the first alone.
-    Taken,
-    /// Two commits, and a finished connection that started after the first, and took the second.
-    Start,
-    /// Two commits, a finished connection that took them, and 100,000 readings.
-    Nothing,
-}
-
-/// The commit with this number, as it is given to a sender.
-fn given<P: Publishing, R: Wait>(
-    rt: &R,
-    publisher: &Publisher<P>,
-    number: u64,
-) -> Option<Arc<Commit, Global>> {
-    match publisher.next_step(rt, 0, number) {
-        SenderStep::Entry(entry) => Some(entry.into_commit()),
-        SenderStep::Skip(_)
-        | SenderStep::Reply
-        | SenderStep::Ended
-        | SenderStep::Finished
-        | SenderStep::OutOfMemory => None,
-    }
-}
-
-/// A finished connection that took so many commits.
-pub(crate) fn finished<P: Publishing, R: Wait>(
-    rt: &R,
-    alloc: Global,
-    publisher: &Publisher<P>,
-    count: u64,
-) -> Result<Served, AllocError> {
-    let mut taken = Vec::new(alloc);
-    for place in 0..count {
-        if let Some(commit) = given(rt, publisher, place.saturating_add(1)) {
-            taken.push(commit)?;
-        }
-    }
-    Ok(Served {
-        slot: Some(0),
-        start: Some(0),
-        is_requested: false,
-        taken,
-        end: End::Finished,
-    })
-}
-
-/// A finished connection that started after the first commit, and took the second.
-fn finished_late<P: Publishing, R: Wait>(
-    rt: &R,
-    alloc: Global,
-    publisher: &Publisher<P>,
-) -> Result<Served, AllocError> {
-    let mut taken = Vec::new(alloc);
-    if let Some(commit) = given(rt, publisher, 2) {
-        taken.push(commit)?;
-    }
-    Ok(Served {
-        slot: Some(0),
-        start: Some(128),
-        is_requested: false,
-        taken,
-        end: End::Finished,
-    })
-}
-
-/// The connection with which a publisher of two commits is closed.
-fn connection<P: Publishing, R: Wait>(
-    rt: &R,
-    alloc: Global,
-    publisher: &Publisher<P>,
-    lacks: Lacks,
-) -> Result<Served, AllocError> {
-    match lacks {
-        Lacks::Start => finished_late(rt, alloc, publisher),
-        Lacks::Taken => finished(rt, alloc, publisher, 1),
-        Lacks::All | Lacks::Seat | Lacks::Nothing => finished(rt, alloc, publisher, 2),
-    }
-}
-
-/// Makes two commits.
-fn commit_twice<P: Publishing, R: Wait>(
-    rt: &R,
-    alloc: Global,
-    publisher: &Publisher<P>,
-    seat: &mut Seat<P>,
-) -> Result<(), Fail> {
-    for turn in 0..2 {
-        let commands = Work::Pairs.commands(alloc, 0, turn)?;
-        publisher.commit(rt, seat, commands, 1)?;
-    }
-    Ok(())
-}
+/// The Query of a client that requests the stream of the first slot from the end of the second commit.
+const AFTER_SECOND: &[u8] = b"Q\0\0\0\x5bSTART_REPLICATION SLOT \"s0\" LOGICAL 0/C0 \
+    (proto_version '1', publication_names '\"pa\"')\0";
 
 /// How often a row is read.
 const READINGS: u32 = 100_000;
 
-/// Reads a row that is there, again and again. None where a reading is refused, or finds no row.
+/// How many connections are served at most until one is finished.
+const TRIES: u32 = 100;
+
+/// Confirms the first slot up to the end of the first commit.
+#[derive(Drop)]
+struct ConfirmFirst;
+
+impl SlotTask for ConfirmFirst {
+    type Answer = bool;
+
+    ghost did = { λ _ _ _ _ _ _ _. Unit {0} };
+
+    fn use_slots(&mut self, book: &mut Book, _connections: &mut [ConnectionState]) -> bool {
+        let end = Lsn::end_of_commit(book.log_len());
+        book.confirm(0, 128, end.to_u64()).is_ok()
+    }
+}
+
+/// The result of a connection of the first slot whose client sends this Query, and closes when its sender has had some
+/// time.
+fn serve_once<P: Publishing + Sync, R: Threads + Wait + Clock + Sync>(
+    rt: &R,
+    publisher: &Publisher<P>,
+    board: &Board,
+    query: &[u8],
+) -> Served<P> {
+    let mut reader = Staying::new(rt, query);
+    let mut writer = Kept::new(rt, board, 0, usize::MAX, usize::MAX);
+    serve(rt, publisher, &mut reader, &mut writer, &OpenGate)
+}
+
+/// Finishes the publisher, and serves clients of the first slot that send this Query, one after another, until a sender
+/// has seen that the publisher is finished before its client closes. Adds the result of each, and returns how many
+/// commits the last one took.
+pub(crate) fn serve_finished<P: Publishing + Sync, R: Threads + Wait + Clock + Abort + Sync>(
+    rt: &R,
+    alloc: Global,
+    publisher: &Publisher<P>,
+    query: &[u8],
+    list: &mut Vec<Served<P>>,
+) -> Result<usize, Fail> {
+    publisher.finish(rt);
+    let board = Board::new(alloc, Work::Pairs, Hold::Nobody, 0)?;
+    for _ in 0..TRIES {
+        let served = serve_once(rt, publisher, &board, query);
+        let (end, count) = (served.end(), served.taken().len());
+        list.push(served)?;
+        if end == End::Finished {
+            holds(rt, board.is_fine());
+            return Ok(count);
+        }
+    }
+    Err(Fail::from("no connection is finished"))
+}
+
+/// Makes a commit with a row for each subscriber.
+fn commit<P: Publishing, R: Wait>(
+    rt: &R,
+    alloc: Global,
+    publisher: &Publisher<P>,
+    seats: &mut Vec<Seat<P>>,
+) -> Result<(), Fail> {
+    let Some(seat) = seats.first_mut() else {
+        return Err(Fail::from("no seat"));
+    };
+    let commands = Work::Pairs.commands(alloc, 0, seat.notes().len())?;
+    publisher.commit(rt, seat, commands, 1)?;
+    Ok(())
+}
+
+/// Reads the row of the first commit again and again.
 fn read_often<P: Publishing, R: Wait>(
     rt: &R,
     alloc: Global,
     publisher: &Publisher<P>,
-    seat: &mut Seat<P>,
-) -> Option<()> {
-    for _ in 0..READINGS {
-        let key = key_of(alloc, 0).ok()?;
-        let reading = publisher.read(rt, seat, 0, key).ok()?;
-        if reading.answer.is_none() {
-            return None;
-        }
-    }
-    Some(())
-}
-
-/// What the closing is answered.
-fn answer<P: Publishing>(
-    publisher: Publisher<P>,
-    rest: Seats<P>,
-    seats: Vec<Seat<P>>,
-    served: Vec<Served>,
-) -> Option<CloseError> {
-    close(publisher, rest, seats, served).err()
-}
-
-/// That a publisher with two commits is closed so.
-fn expect_two<P: Publishing, R: Wait + Abort>(
-    rt: &R,
-    alloc: Global,
-    publisher: Publisher<P>,
-    mut seats: Seats<P>,
-    lacks: Lacks,
+    seats: &mut Vec<Seat<P>>,
 ) -> Result<(), Fail> {
-    let Some(mut seat) = seats.seat() else {
+    let Some(seat) = seats.first_mut() else {
         return Err(Fail::from("no seat"));
     };
-    commit_twice(rt, alloc, &publisher, &mut seat)?;
-    if lacks == Lacks::Nothing && read_often(rt, alloc, &publisher, &mut seat).is_none() {
-        return Err(Fail::from("no row is read"));
+    for _ in 0..READINGS {
+        let reading = publisher.read(rt, seat, 0, key_of(alloc, 0)?)?;
+        if reading.answer.is_none() {
+            return Err(Fail::from("no row is read"));
+        }
     }
-    let served = vec![in alloc; connection(rt, alloc, &publisher, lacks)?]?;
-    let mut list = Vec::new(alloc);
-    if lacks != Lacks::Seat {
-        list.push(seat)?;
-    }
-    let wanted = match lacks {
-        Lacks::Seat => Some(CloseError::CountDiffers),
-        Lacks::Taken => Some(CloseError::TakenDiffers),
-        Lacks::Start => Some(CloseError::StartLate),
-        Lacks::All | Lacks::Nothing => None,
-    };
-    same(rt, answer(publisher, seats, list, served), wanted);
     Ok(())
 }
 
-/// That a publisher is closed so.
-pub(crate) fn expect_answer<P: Publishing, R: Wait + Abort>(
+/// Serves a client that starts where the slot is confirmed, until it is finished.
+fn serve_next<P: Publishing + Sync, R: Threads + Wait + Clock + Abort + Sync>(
+    rt: &R,
+    alloc: Global,
+    publisher: &Publisher<P>,
+    list: &mut Vec<Served<P>>,
+) -> Result<(), Fail> {
+    let query = query(alloc, Work::Pairs, 0)?;
+    serve_finished(rt, alloc, publisher, query.as_slice(), list)?;
+    Ok(())
+}
+
+/// Drops the first result.
+fn lose_first<P: Publishing>(served: &mut Vec<Served<P>>) {
+    if !served.is_empty() {
+        drop(served.remove(0));
+    }
+}
+
+/// Takes a step.
+fn take<P: Publishing + Sync, R: Threads + Wait + Clock + Abort + Sync>(
+    rt: &R,
+    alloc: Global,
+    publisher: &Publisher<P>,
+    seats: &mut Vec<Seat<P>>,
+    served: &mut Vec<Served<P>>,
+    step: Step,
+) -> Result<(), Fail> {
+    match step {
+        Step::Commit => commit(rt, alloc, publisher, seats)?,
+        Step::Read => read_often(rt, alloc, publisher, seats)?,
+        Step::Confirm => holds(rt, publisher.with_slots(rt, &mut ConfirmFirst)),
+        Step::Serve => serve_next(rt, alloc, publisher, served)?,
+        Step::Request => {
+            serve_finished(rt, alloc, publisher, AFTER_SECOND, served)?;
+        }
+        Step::Reverse => served.as_mut_slice().reverse(),
+        Step::LoseFirst => lose_first(served),
+        Step::LoseLast => drop(served.pop()),
+        Step::LoseSeat => seats.clear(),
+    }
+    Ok(())
+}
+
+/// Takes the steps, and checks that the publisher is then closed with this answer.
+pub(crate) fn expect_answer<P: Publishing + Sync, R: Threads + Wait + Clock + Abort + Sync>(
     rt: &R,
     alloc: Global,
     publisher: Publisher<P>,
-    seats: Seats<P>,
-    lacks: Lacks,
+    mut free: Seats<P>,
+    case: Case,
 ) -> Result<(), Fail> {
-    if lacks == Lacks::All {
-        same(
-            rt,
-            answer(publisher, seats, Vec::new(alloc), Vec::new(alloc)),
-            None,
-        );
-        return Ok(());
+    let (steps, wanted) = case;
+    let mut seats = take_seats(alloc, &mut free, 1)?;
+    let mut served = Vec::new(alloc);
+    for step in steps {
+        take(rt, alloc, &publisher, &mut seats, &mut served, *step)?;
     }
-    expect_two(rt, alloc, publisher, seats, lacks)
+    let answer = close(publisher, free, seats, served).err();
+    same(rt, (steps, answer), case);
+    Ok(())
 }

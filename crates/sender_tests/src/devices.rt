@@ -1,13 +1,14 @@
 //! Sources and sinks over memory.
 
-ghost use Rattle.std.specs.Prelude.{◌≡◌, true};
+ghost use Rattle.std.specs.Prelude.{◌≡◌, false, true};
 
-use crate::board::{Board, LOST};
+use crate::board::{Board, GRACE, LOST};
 use crate::clients::{hears, subscriber};
 use crate::phrases::{before_done, keepalives};
 use crate::work::Hold;
 use senders::{Failed, Sink, Source};
-use std::time::Clock;
+use std::thread;
+use std::time::{Clock, Duration};
 use test_subscriber::Subscriber;
 
 /// What a client writes: some bytes. Then it waits until it has got this much, and closes; but if its writer has
@@ -100,6 +101,52 @@ impl<C: Clock> Source for Asking<'_, C> {
 
     fn failed(&self) -> bool {
         self.failed
+    }
+
+    fn ended(&self) -> bool {
+        self.ended
+    }
+}
+
+/// What a client writes: some bytes. Then it gives its sender some time, and closes. No read fails.
+#[derive(Drop)]
+pub(crate) struct Staying<'a, C> {
+    clock: &'a C,
+    left: &'a [u8],
+    ended: bool,
+}
+
+impl<'a, C: Clock> Staying<'a, C> {
+    pub(crate) fn new(clock: &'a C, left: &'a [u8]) -> Staying<'a, C> {
+        Staying {
+            clock,
+            left,
+            ended: false,
+        }
+    }
+}
+
+impl<C: Clock> Source for Staying<'_, C> {
+    ghost has_failed = { λ source. false };
+
+    ghost has_ended = { λ source. source.ended };
+
+    fn pull(&mut self, piece: &mut [u8]) -> Result<usize, Failed> {
+        if self.left.is_empty() {
+            thread::sleep(self.clock, Duration::from_millis(GRACE));
+        }
+        let count = self.left.len().min(piece.len());
+        let (now, later) = self.left.split_at(count);
+        piece[..count].copy_from_slice(now);
+        self.left = later;
+        if count == 0 && !piece.is_empty() {
+            self.ended = true;
+        }
+        Ok(count)
+    }
+
+    fn failed(&self) -> bool {
+        false
     }
 
     fn ended(&self) -> bool {

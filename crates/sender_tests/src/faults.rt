@@ -57,7 +57,7 @@ fn served<P: Publishing + Sync, R: Threads + Wait + Clock + Sync>(
     board: &Board,
     query: &[u8],
     room: usize,
-) -> (Served, Vec<u8>) {
+) -> (Served<P>, Vec<u8>) {
     board.gets(0, 0);
     let mut reader = Asking::new(rt, board, 0, 2, query);
     let mut writer = Kept::new(rt, board, 0, room, usize::MAX);
@@ -80,9 +80,9 @@ fn expect_room<P: Publishing + Sync, R: Threads + Wait + Clock + Abort + Sync>(
     } else {
         End::Client
     };
-    same(rt, served.end, end);
-    same(rt, (served.slot, served.start), (Some(0), Some(0)));
-    same(rt, served.taken.len(), if room < 8 { 0 } else { 1 });
+    same(rt, served.end(), end);
+    same(rt, (served.slot(), served.start()), (Some(0), Some(0)));
+    same(rt, served.taken().len(), if room < 8 { 0 } else { 1 });
     holds(rt, begin_stream(bytes.as_slice(), room.min(241)));
 }
 
@@ -95,8 +95,8 @@ fn expect_read_fault<P: Publishing + Sync, R: Threads + Wait + Clock + Abort + S
     let mut reader = Asking::failing(rt, board);
     let mut writer = Kept::new(rt, board, 0, usize::MAX, usize::MAX);
     let served = serve(rt, publisher, &mut reader, &mut writer, &OpenGate);
-    same(rt, served.end, End::ReadFault);
-    same(rt, (served.slot, served.start), (None, None));
+    same(rt, served.end(), End::ReadFault);
+    same(rt, (served.slot(), served.start()), (None, None));
     same(rt, writer.bytes.len(), 0);
 }
 

@@ -9,6 +9,8 @@ mod batches;
 #[cfg(test)]
 mod board;
 #[cfg(test)]
+mod cases;
+#[cfg(test)]
 mod checks;
 #[cfg(test)]
 mod clients;

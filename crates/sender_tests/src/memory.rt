@@ -17,7 +17,7 @@ use std::thread::Threads;
 use std::time::Clock;
 
 /// A connection over memory.
-type Held<'a, R> = Conn<Asking<'a, R>, Kept<'a, R>>;
+type Held<'a, P, R> = Conn<P, Asking<'a, R>, Kept<'a, R>>;
 
 /// What the client of a slot asks.
 pub(crate) fn query(alloc: Global, work: Work, slot: usize) -> Result<Vec<u8>, AllocError> {
@@ -46,11 +46,11 @@ fn most(board: &Board, slot: usize) -> usize {
 }
 
 /// A connection of each client.
-fn connect<'a, R: Clock>(
+fn connect<'a, P: Publishing, R: Clock>(
     rt: &'a R,
     board: &'a Board,
     queries: &'a [Vec<u8>],
-) -> Result<Vec<Held<'a, R>>, AllocError> {
+) -> Result<Vec<Held<'a, P, R>>, AllocError> {
     let mut list = Vec::new(board.alloc);
     for (slot, query) in queries.iter().enumerate() {
         let last = board.work.in_all();
@@ -64,17 +64,17 @@ fn connect<'a, R: Clock>(
 }
 
 /// That the connection of this slot took all commits, and that its bytes give its shard.
-fn expect_one<R: Clock + Abort>(
+fn expect_one<P: Publishing, R: Clock + Abort>(
     rt: &R,
     board: &Board,
     slot: usize,
-    connection: Held<'_, R>,
-) -> Result<Served, Fail> {
+    connection: Held<'_, P, R>,
+) -> Result<Served<P>, Fail> {
     let Conn { writer, served, .. } = connection;
     let Some(served) = served else {
         return Err(Fail::from("a connection was not served"));
     };
-    same(rt, served.slot, Some(slot));
+    same(rt, served.slot(), Some(slot));
     expect_all(rt, &served, board.work);
     let bytes = writer.bytes.as_slice();
     holds(
@@ -85,11 +85,11 @@ fn expect_one<R: Clock + Abort>(
 }
 
 /// That each connection did so.
-fn expect_each<R: Clock + Abort>(
+fn expect_each<P: Publishing, R: Clock + Abort>(
     rt: &R,
     board: &Board,
-    connections: Vec<Held<'_, R>>,
-) -> Result<Vec<Served>, Fail> {
+    connections: Vec<Held<'_, P, R>>,
+) -> Result<Vec<Served<P>>, Fail> {
     let mut list = Vec::new(board.alloc);
     let mut slot = 0usize;
     for connection in connections {

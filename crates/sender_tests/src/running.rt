@@ -40,7 +40,7 @@ pub(crate) fn run<
     rt: &R,
     publisher: &Publisher<P>,
     seats: &mut Vec<Seat<P>>,
-    connections: &mut [Conn<S, W>],
+    connections: &mut [Conn<P, S, W>],
     gate: &G,
     board: &Board,
 ) {
@@ -52,22 +52,22 @@ pub(crate) fn run<
 }
 
 /// Whether the commits that were taken up are all.
-fn has_all(served: &Served, work: Work) -> bool {
+fn has_all<P: Publishing>(served: &Served<P>, work: Work) -> bool {
     let mut number = 0u32;
-    for commit in &served.taken {
+    for commit in served.taken() {
         number = number.saturating_add(1);
         if commit.number() != number {
             return false;
         }
     }
-    served.taken.len() == work.commits()
+    served.taken().len() == work.commits()
 }
 
 /// That all commits were taken from the log's start on, and the connection was ended by its client or the publisher.
-pub(crate) fn expect_all(rt: &impl Abort, served: &Served, work: Work) {
-    same(rt, served.start, Some(0));
+pub(crate) fn expect_all<P: Publishing>(rt: &impl Abort, served: &Served<P>, work: Work) {
+    same(rt, served.start(), Some(0));
     holds(rt, has_all(served, work));
-    holds(rt, served.end == End::Client || served.end == End::Finished);
+    holds(rt, matches!(served.end(), End::Client | End::Finished));
 }
 
 /// How many of the notes are receipts.
@@ -97,7 +97,7 @@ pub(crate) fn expect_closed<P: Publishing>(
     publisher: Publisher<P>,
     rest: Seats<P>,
     seats: Vec<Seat<P>>,
-    served: Vec<Served>,
+    served: Vec<Served<P>>,
 ) -> Result<(), Fail> {
     let closed = close(publisher, rest, seats, served)?;
     same(rt, closed.book.log_len() as usize, board.work.commits());

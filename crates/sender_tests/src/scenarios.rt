@@ -5,7 +5,8 @@ ghost use Rattle.std.specs.Arc.{arc_value};
 ghost use Rattle.shard_checker.specs.CheckedView.{checked_view};
 
 use crate::batches::expect_batches;
-use crate::closing::{Lacks, expect_answer};
+use crate::cases::{CASES, Case};
+use crate::closing::expect_answer;
 use crate::faults::expect_faults;
 use crate::sharding::{HALVES, HALVES_SPLIT, shards, shards_split};
 use crate::sizes::expect_size;
@@ -31,7 +32,7 @@ enum Use {
     Memory(Work, Hold),
     Faults,
     Batches,
-    Closing(Lacks),
+    Closing(Case),
     Talk,
     /// By so many seats, for so many commits.
     Size(usize, usize),
@@ -52,6 +53,7 @@ fn publish<
     requires parts { opening.parts ≡ P.parts }
     requires seats { opening.parts ≡ 1000 }
     requires history { opening.history ≡ P.history }
+    requires slots { opening.slots ≡ P.slots }
     requires checked { checked_view (arc_value checked) ≡ P.checked }
     requires limit { 10000 ≡ P.limit }
 {
@@ -63,7 +65,7 @@ fn publish<
         }
         Use::Faults => expect_faults(rt, alloc, &publisher, seats),
         Use::Batches => expect_batches(rt, alloc, &publisher, seats),
-        Use::Closing(lacks) => expect_answer(rt, alloc, publisher, seats, lacks),
+        Use::Closing(case) => expect_answer(rt, alloc, publisher, seats, case),
         Use::Talk => expect_talk(rt, alloc, publisher, seats),
         Use::Size(count, commits) => expect_size(rt, alloc, publisher, seats, count, commits),
     }
@@ -123,14 +125,8 @@ fn commits_that_wait_are_written_at_once(rt: HostRuntime) -> Result<(), Fail> {
 
 #[test]
 fn a_publisher_is_closed_where_all_agree(rt: HostRuntime) -> Result<(), Fail> {
-    for lacks in [
-        Lacks::All,
-        Lacks::Seat,
-        Lacks::Taken,
-        Lacks::Start,
-        Lacks::Nothing,
-    ] {
-        expect(&rt, rt.alloc(), HALVES, HALVES_SPLIT, Use::Closing(lacks))?;
+    for case in CASES {
+        expect(&rt, rt.alloc(), HALVES, HALVES_SPLIT, Use::Closing(*case))?;
     }
     Ok(())
 }

@@ -1,15 +1,18 @@
 //! Publishers of small sizes, which are closed.
 
 use crate::checks::{holds, same};
-use crate::closing::finished;
+use crate::closing::serve_finished;
+use crate::memory::query;
 use crate::running::count_all;
 use crate::sessions::take_seats;
-use crate::work::{key_of, row_of};
+use crate::work::{Work, key_of, row_of};
 use senders::{Publisher, Publishing, Seat, Seats, Served, close};
 use std::alloc::{AllocError, Global};
 use std::process::Abort;
 use std::sync::Wait;
 use std::test::Fail;
+use std::thread::Threads;
+use std::time::Clock;
 use table_changes::Command;
 
 /// The commands of the commit after so many: one more than these, of which the first inserts a row of the first
@@ -61,23 +64,25 @@ fn commit_all<P: Publishing, R: Wait + Abort>(
     Ok(())
 }
 
-/// Up to two finished connections, each of which took all of so many commits.
-fn connections<P: Publishing, R: Wait>(
+/// Up to two finished connections, each of which took all of so many commits, and those that were not finished.
+fn connections<P: Publishing + Sync, R: Threads + Wait + Clock + Abort + Sync>(
     rt: &R,
     alloc: Global,
     publisher: &Publisher<P>,
     commits: usize,
-) -> Result<Vec<Served>, AllocError> {
+) -> Result<Vec<Served<P>>, Fail> {
+    let query = query(alloc, Work::Pairs, 0)?;
     let mut list = Vec::new(alloc);
     for _ in 0..commits % 3 {
-        list.push(finished(rt, alloc, publisher, commits as u64)?)?;
+        let taken = serve_finished(rt, alloc, publisher, query.as_slice(), &mut list)?;
+        same(rt, taken, commits);
     }
     Ok(list)
 }
 
 /// That a publisher of this many seats and commits is closed. If the number of commits is odd, a seat without notes is
 /// held back.
-pub(crate) fn expect_size<P: Publishing, R: Wait + Abort>(
+pub(crate) fn expect_size<P: Publishing + Sync, R: Threads + Wait + Clock + Abort + Sync>(
     rt: &R,
     alloc: Global,
     publisher: Publisher<P>,
@@ -88,6 +93,7 @@ pub(crate) fn expect_size<P: Publishing, R: Wait + Abort>(
     let mut seats = take_seats(alloc, &mut free, count)?;
     commit_all(rt, alloc, &publisher, &mut seats, commits)?;
     let served = connections(rt, alloc, &publisher, commits)?;
+    let count_served = served.len();
     let held = if commits % 2 == 1 { free.seat() } else { None };
     let closed = close(publisher, free, seats, served)?;
     drop(held);
@@ -97,6 +103,6 @@ pub(crate) fn expect_size<P: Publishing, R: Wait + Abort>(
         (count, commits),
     );
     same(rt, count_all(closed.seats.as_slice()), commits);
-    same(rt, closed.served.len(), commits % 3);
+    same(rt, closed.served.len(), count_served);
     Ok(())
 }

@@ -17,10 +17,10 @@ use std::thread::{Threads, join};
 use std::time::Clock;
 
 /// A connection over a socket.
-type Wired = Conn<FromRead<TcpStream>, ToWrite<TcpStream>>;
+type Wired<P> = Conn<P, FromRead<TcpStream>, ToWrite<TcpStream>>;
 
 /// The connections of two clients.
-fn accept(alloc: Global, listener: &TcpListener) -> Result<Vec<Wired>, Fail> {
+fn accept<P: Publishing>(alloc: Global, listener: &TcpListener) -> Result<Vec<Wired<P>>, Fail> {
     let mut list = Vec::new(alloc);
     for _ in 0..2 {
         let (stream, _) = listener.accept()?;
@@ -35,11 +35,11 @@ fn accept(alloc: Global, listener: &TcpListener) -> Result<Vec<Wired>, Fail> {
 }
 
 /// That both connections took all commits.
-fn expect_both(
+fn expect_both<P: Publishing>(
     rt: &impl Abort,
     board: &Board,
-    connections: Vec<Wired>,
-) -> Result<Vec<Served>, Fail> {
+    connections: Vec<Wired<P>>,
+) -> Result<Vec<Served<P>>, Fail> {
     let mut list = Vec::new(board.alloc);
     for connection in connections {
         let Conn { served, .. } = connection;
@@ -59,7 +59,7 @@ fn serve_both<P: Publishing + Sync, R: Threads + Wait + Clock + Abort + Sync>(
     seats: &mut Vec<Seat<P>>,
     listener: &TcpListener,
     board: &Board,
-) -> Result<Vec<Served>, Fail> {
+) -> Result<Vec<Served<P>>, Fail> {
     let mut connections = accept(board.alloc, listener)?;
     let gate = FirstHeld { clock: rt, board };
     run(

@@ -18,17 +18,17 @@ use std::thread::Threads;
 use std::time::Clock;
 
 /// A connection over memory whose client says its lines.
-type Led<'a, R> = Conn<Prompted<'a, R>, Kept<'a, R>>;
+type Led<'a, P, R> = Conn<P, Prompted<'a, R>, Kept<'a, R>>;
 
 /// The rounds, in their order.
 const ROUNDS: &[Round] = &[Round::Reports, Round::Ahead, Round::AtOnce, Round::Last];
 
 /// A connection of each client that says something.
-fn connect<'a, R: Clock>(
+fn connect<'a, P: Publishing, R: Clock>(
     rt: &'a R,
     board: &'a Board,
     lines: &'a [Vec<Vec<u8>>],
-) -> Result<Vec<Led<'a, R>>, AllocError> {
+) -> Result<Vec<Led<'a, P, R>>, AllocError> {
     let mut list = Vec::new(board.alloc);
     for (slot, own) in lines.iter().enumerate() {
         if !own.is_empty() {
@@ -43,18 +43,18 @@ fn connect<'a, R: Clock>(
 }
 
 /// Why a connection ended. Where the publisher is finished it may be that or its client.
-fn end_of(round: Round, served: &Served) -> End {
-    if round == Round::Last && served.end == End::Finished {
+fn end_of(round: Round, end: End) -> End {
+    if round == Round::Last && end == End::Finished {
         return End::Client;
     }
-    served.end
+    end
 }
 
 /// What came of the connection of this slot.
-fn outcome(board: &Board, slot: usize, served: &Served, bytes: &[u8]) -> Outcome {
+fn outcome<P: Publishing>(board: &Board, slot: usize, served: &Served<P>, bytes: &[u8]) -> Outcome {
     Outcome {
-        start: served.start,
-        end: end_of(board.round, served),
+        start: served.start(),
+        end: end_of(board.round, served.end()),
         replies: keepalives(bytes),
         gates: board.gates(slot),
         is_done: bytes.ends_with(DONE),
@@ -62,29 +62,29 @@ fn outcome(board: &Board, slot: usize, served: &Served, bytes: &[u8]) -> Outcome
 }
 
 /// That the connection of this slot went as the round wants it.
-fn expect_one<R: Clock + Abort>(
+fn expect_one<P: Publishing, R: Clock + Abort>(
     rt: &R,
     board: &Board,
     slot: usize,
-    connection: Led<'_, R>,
-) -> Result<Served, Fail> {
+    connection: Led<'_, P, R>,
+) -> Result<Served<P>, Fail> {
     let Conn { writer, served, .. } = connection;
     let Some(served) = served else {
         return Err(Fail::from("a connection was not served"));
     };
     let found = outcome(board, slot, &served, writer.bytes.as_slice());
     let wanted = board.round.wanted(slot);
-    same(rt, served.slot, Some(slot));
+    same(rt, served.slot(), Some(slot));
     same(rt, (board.round, slot, found), (board.round, slot, wanted));
     Ok(served)
 }
 
 /// That each connection did so.
-fn expect_each<R: Clock + Abort>(
+fn expect_each<P: Publishing, R: Clock + Abort>(
     rt: &R,
     board: &Board,
-    connections: Vec<Led<'_, R>>,
-) -> Result<Vec<Served>, Fail> {
+    connections: Vec<Led<'_, P, R>>,
+) -> Result<Vec<Served<P>>, Fail> {
     let mut list = Vec::new(board.alloc);
     let mut slot = 0usize;
     for connection in connections {
@@ -101,7 +101,7 @@ fn expect_round<P: Publishing + Sync, R: Threads + Wait + Clock + Abort + Sync>(
     publisher: &Publisher<P>,
     seats: &mut Vec<Seat<P>>,
     round: Round,
-) -> Result<Vec<Served>, Fail> {
+) -> Result<Vec<Served<P>>, Fail> {
     let board = Board::of_round(alloc, round)?;
     let lines = all_lines(alloc, round)?;
     let mut connections = connect(rt, &board, lines.as_slice())?;

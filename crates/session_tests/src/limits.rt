@@ -125,6 +125,7 @@ fn expect_answers<P: Publishing, R: Wait + Abort>(
     requires parts { opening.parts ≡ P.parts }
     requires seats { opening.parts ≡ 1000 }
     requires history { opening.history ≡ P.history }
+    requires slots { opening.slots ≡ P.slots }
     requires checked { checked_view (arc_value checked) ≡ P.checked }
     requires limit { 2 ≡ P.limit }
 {
@@ -187,6 +188,7 @@ fn longest_is_read<P: Publishing, R: Wait>(
     requires parts { opening.parts ≡ P.parts }
     requires seats { opening.parts ≡ 1000 }
     requires history { opening.history ≡ P.history }
+    requires slots { opening.slots ≡ P.slots }
     requires checked { checked_view (arc_value checked) ≡ P.checked }
     requires limit { 1 ≡ P.limit }
 {

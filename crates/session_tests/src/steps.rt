@@ -6,7 +6,9 @@ use crate::calls::{commit, put};
 use crate::checks::same;
 use crate::sharding::accepted;
 use crate::threads::WHOLE;
-use publisher_desk::{ConnectionState, Opening, Publisher, Publishing, Seat, SenderStep, SlotTask};
+use publisher_desk::{
+    ConnectionState, Opening, Publisher, Publishing, Seat, SenderStep, SlotTask, Viewer,
+};
 use shard_checker::Checked;
 use std::alloc::Global;
 use std::marker::Brand;
@@ -87,6 +89,7 @@ fn steps<P: Publishing, R: Wait>(
     requires parts { opening.parts ≡ P.parts }
     requires seats { opening.parts ≡ 1000 }
     requires history { opening.history ≡ P.history }
+    requires slots { opening.slots ≡ P.slots }
     requires checked { checked_view (arc_value checked) ≡ P.checked }
     requires limit { 2 ≡ P.limit }
 {
@@ -96,12 +99,13 @@ fn steps<P: Publishing, R: Wait>(
     };
     let commands = vec![in alloc; put(alloc, 1, "a")?]?;
     commit(rt, &publisher, &mut seat, commands)?;
-    let first = code(publisher.next_step(rt, 0, 1));
-    let now = code_now(publisher.step_now(rt, 0, 1));
-    let later = code_now(publisher.step_now(rt, 0, 2));
+    let mut viewer = Viewer::new();
+    let first = code(publisher.next_step(rt, &mut viewer, 0, 1));
+    let now = code_now(publisher.step_now(rt, &mut viewer, 0, 1));
+    let later = code_now(publisher.step_now(rt, &mut viewer, 0, 2));
     publisher.finish(rt);
-    let last = code(publisher.next_step(rt, 0, 2));
-    let beside = code(publisher.next_step(rt, 1, 1));
+    let last = code(publisher.next_step(rt, &mut viewer, 0, 2));
+    let beside = code(publisher.next_step(rt, &mut viewer, 1, 1));
     let slots = publisher.with_slots(rt, &mut Count);
     Ok(((first, last, beside), (now, later), slots))
 }
@@ -149,6 +153,7 @@ fn halves<P: Publishing, R: Wait>(
     requires parts { opening.parts ≡ P.parts }
     requires seats { opening.parts ≡ 1000 }
     requires history { opening.history ≡ P.history }
+    requires slots { opening.slots ≡ P.slots }
     requires checked { checked_view (arc_value checked) ≡ P.checked }
     requires limit { 71 ≡ P.limit }
 {
@@ -157,14 +162,15 @@ fn halves<P: Publishing, R: Wait>(
         return Err(Fail::from("no seat"));
     };
     commit_halves(rt, alloc, &publisher, &mut seat)?;
-    let first = code(publisher.next_step(rt, 0, 1));
+    let mut viewers = (Viewer::new(), Viewer::new());
+    let first = code(publisher.next_step(rt, &mut viewers.0, 0, 1));
     let one = sent_to(rt, &publisher, 0);
-    let last = code(publisher.next_step(rt, 0, 71));
-    let later = code_now(publisher.step_now(rt, 0, 72));
-    let many = code(publisher.next_step(rt, 1, 1));
+    let last = code(publisher.next_step(rt, &mut viewers.0, 0, 71));
+    let later = code_now(publisher.step_now(rt, &mut viewers.0, 0, 72));
+    let many = code(publisher.next_step(rt, &mut viewers.1, 1, 1));
     let other = sent_to(rt, &publisher, 1);
-    let few = code(publisher.next_step(rt, 1, 65));
-    let own = code(publisher.next_step(rt, 1, 71));
+    let few = code(publisher.next_step(rt, &mut viewers.1, 1, 65));
+    let own = code(publisher.next_step(rt, &mut viewers.1, 1, 71));
     Ok(((first, last, later), (many, few, own), (one, other)))
 }
 

@@ -103,6 +103,7 @@ fn both_sessions<P: Publishing + Sync, R: Threads + Wait + Sync>(
     requires parts { opening.parts ≡ P.parts }
     requires seats { opening.parts ≡ 1000 }
     requires history { opening.history ≡ P.history }
+    requires slots { opening.slots ≡ P.slots }
     requires checked { checked_view (arc_value checked) ≡ P.checked }
     requires limit { 100 ≡ P.limit }
 {
@@ -127,7 +128,8 @@ fn both_sessions<P: Publishing + Sync, R: Threads + Wait + Sync>(
     let mut both = Vec::new(alloc);
     both.push(first)?;
     both.push(second)?;
-    Ok(publisher.into_counted(seats, both.as_mut_slice()).log_len())
+    let closing = publisher.into_closing();
+    Ok(closing.into_counted(seats, both.as_mut_slice()).log_len())
 }
 
 #[test]

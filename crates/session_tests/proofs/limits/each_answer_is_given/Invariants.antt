@@ -6,4 +6,4 @@ abbrev pub ghosts-expect_answers-P-Ledger : goal.ghosts-expect_answers-P-Ledger
 ghosts-expect_answers-P-Ledger g a = record { name = a.opening.name; parts = a.opening.parts }
 
 abbrev pub ghosts-expect_answers-P-Publishing : goal.ghosts-expect_answers-P-Publishing
-ghosts-expect_answers-P-Publishing g a = record { checked = checked_view (arc_value a.checked); limit = 2; history = a.opening.history }
+ghosts-expect_answers-P-Publishing g a = record { checked = checked_view (arc_value a.checked); limit = 2; history = a.opening.history; slots = a.opening.slots }

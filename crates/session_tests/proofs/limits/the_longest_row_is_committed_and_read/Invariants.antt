@@ -6,4 +6,4 @@ abbrev pub ghosts-longest_is_read-P-Ledger : goal.ghosts-longest_is_read-P-Ledge
 ghosts-longest_is_read-P-Ledger g a = record { name = a.opening.name; parts = a.opening.parts }
 
 abbrev pub ghosts-longest_is_read-P-Publishing : goal.ghosts-longest_is_read-P-Publishing
-ghosts-longest_is_read-P-Publishing g a = record { checked = checked_view (arc_value a.checked); limit = 1; history = a.opening.history }
+ghosts-longest_is_read-P-Publishing g a = record { checked = checked_view (arc_value a.checked); limit = 1; history = a.opening.history; slots = a.opening.slots }

@@ -6,4 +6,4 @@ abbrev pub ghosts-seated-P-Ledger : goal.ghosts-seated-P-Ledger
 ghosts-seated-P-Ledger g a = record { name = a.opening.name; parts = a.opening.parts }
 
 abbrev pub ghosts-seated-P-Publishing : goal.ghosts-seated-P-Publishing
-ghosts-seated-P-Publishing g a = record { checked = checked_view (arc_value a.checked); limit = 1; history = a.opening.history }
+ghosts-seated-P-Publishing g a = record { checked = checked_view (arc_value a.checked); limit = 1; history = a.opening.history; slots = a.opening.slots }

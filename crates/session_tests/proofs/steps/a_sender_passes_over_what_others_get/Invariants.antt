@@ -6,4 +6,4 @@ abbrev pub ghosts-halves-P-Ledger : goal.ghosts-halves-P-Ledger
 ghosts-halves-P-Ledger g a = record { name = a.opening.name; parts = a.opening.parts }
 
 abbrev pub ghosts-halves-P-Publishing : goal.ghosts-halves-P-Publishing
-ghosts-halves-P-Publishing g a = record { checked = checked_view (arc_value a.checked); limit = 71; history = a.opening.history }
+ghosts-halves-P-Publishing g a = record { checked = checked_view (arc_value a.checked); limit = 71; history = a.opening.history; slots = a.opening.slots }

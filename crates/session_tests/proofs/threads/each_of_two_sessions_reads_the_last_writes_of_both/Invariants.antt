@@ -6,4 +6,4 @@ abbrev pub ghosts-both_sessions-P-Ledger : goal.ghosts-both_sessions-P-Ledger
 ghosts-both_sessions-P-Ledger g a = record { name = a.opening.name; parts = a.opening.parts }
 
 abbrev pub ghosts-both_sessions-P-Publishing : goal.ghosts-both_sessions-P-Publishing
-ghosts-both_sessions-P-Publishing g a = record { checked = checked_view (arc_value a.checked); limit = 100; history = a.opening.history }
+ghosts-both_sessions-P-Publishing g a = record { checked = checked_view (arc_value a.checked); limit = 100; history = a.opening.history; slots = a.opening.slots }
