@@ -203,7 +203,7 @@ SERVED = Theorem("served", [
     clauses("senders", "serving.rt", "serve"),
     clauses("senders", "connection.rt", "run_all"),
     MADE,
-], most=2000, tokens={
+], most=2100, tokens={
     "frames_in": "the `whole_frames` of bytes, with the limit 65,536",
     **FRAMES,
     **BOOKS,
@@ -220,7 +220,7 @@ SESSIONS = Theorem("sessions", [
     clauses("publisher_desk", "publisher.rt", "read"),
     clauses("publisher_desk", "publisher.rt", "next_step"),
     clauses("publisher_desk", "publisher.rt", "with_slots"),
-], most=1400, tokens={
+], most=1550, tokens={
     **BOOKS,
     "book_limit": LIMIT,
 }, traits=[
@@ -244,7 +244,7 @@ CLOSED = Theorem("closed", [
 PROGRAM = Theorem("program", [
     clauses("cli", "program.rt", "run"),
     clauses("cli", "program.rt", "run_serving"),
-], most=6800, tokens={
+], most=6850, tokens={
     "IsClosed": Ensured(
         "what `close` of `senders` ensures, which is read in part 5",
         (clauses("senders", "closing.rt", "close", "ok"),)),

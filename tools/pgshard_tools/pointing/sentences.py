@@ -33,7 +33,8 @@ CLOSINGS = {
     "CountDiffers": "the number of commits in the log is not the number that was answered",
     "ReceiptMissing": "a commit in the log is not one that was answered",
     "ReadingWrong": "a reading differs from what the commits left",
-    "TakenDiffers": "a connection took commits other than those of the log",
+    "TakenDiffers": "a finished connection stops before the end of the log",
+    "ConnectionMissing": "the result of a connection is missing",
     "StartLate": "a stream started after a commit that its slot was never sent",
 }
 
