@@ -133,7 +133,7 @@ PLANTS = {
     "a name that is defined by something else": (
         "cli/specs/Connections.antt",
         "  pub is : IsServed checked left now_left source_failed source_ended before after sink_failed served\n",
-        "  pub is : Served\n",
+        "  pub is : ServedOf\n",
         "WasServed is not defined by IsServed"),
     "a definition that is renamed away": (
         "shard_checker/specs/Sound.antt", "pub record IsSound ", "pub record IsSoundToo ", "the word IsSound is not found"),
