@@ -72,7 +72,8 @@ module _ (checked : CheckedOf) (limit : ℕ) where
   pub data IsStepAnswered (had has : SeatOf) : StepOf → List (List ℕ) → Type 0 where
     Committing : (commands : List Command) (answer : Answer) → IsTalkAnswered had commands has answer
         → IsStepAnswered had has (Commit commands) (answer_line answer ∷ [])
-    Viewing : (lines : List (List ℕ)) → IsView checked has lines → has.notes ≡ had.notes → IsStepAnswered had has View lines
+    Viewing : (lines : List (List ℕ)) → IsView checked has lines → has.notes ≡ had.notes
+        → IsStepAnswered had has View lines
 
   -- A line is answered with these lines. A step may show the session more of the log.
   pub data IsLineAnswer (had : SeatOf) (line : List ℕ) : List (List ℕ) → SeatOf → Type 0 where

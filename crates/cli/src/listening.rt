@@ -18,7 +18,8 @@ pub fn say_listening<'a, W: Writer>(
     port: u16,
     writer: &mut W,
 ) -> Result<(), Failure<'a>>
-    ensures written { OnOk result (Appends (W.contents writer.old) (W.contents writer.new) (ended (listening_line port))) }
+    ensures written { OnOk result (Appends (W.contents writer.old) (W.contents writer.new)
+        (ended (listening_line port))) }
     ensures stopped { IfErr result (StopsText (ended (listening_line port)) (W.contents writer.old)
         (W.contents writer.new)) }
     ensures flushed { OnOk result (W.is_flushed writer.new ≡ true) }
@@ -42,7 +43,8 @@ pub fn listen<'a, W: Writer, R: Clock + Eprint + Net<Listener = TcpListener, Str
     port: u16,
     writer: &mut W,
 ) -> Result<TcpListener, Failure<'a>>
-    ensures written { OnOk result (Appends (W.contents writer.old) (W.contents writer.new) (ended (listening_line port))) }
+    ensures written { OnOk result (Appends (W.contents writer.old) (W.contents writer.new)
+        (ended (listening_line port))) }
     ensures stopped { IfErr result (StopsText (ended (listening_line port)) (W.contents writer.old)
         (W.contents writer.new)) }
     ensures flushed { OnOk result (W.is_flushed writer.new ≡ true) }

@@ -231,7 +231,8 @@ PiecesAreHeard = (checked : CheckedOf) (known : BooksOf) (bytes piece : List ℕ
 -- with the piece a stream starts, after the position up to which its slot was confirmed: that is the requested one
 abbrev pub LateStartsAreRequested : Type 0
 LateStartsAreRequested = (checked : CheckedOf) (known : BooksOf) (bytes piece : List ℕ) (old new : Ear)
-    (before after : Book) (sent : ℕ) (result : Result Heard LinkFault) → HasHeard checked known bytes old → IsBookFor checked known before
+    (before after : Book) (sent : ℕ) (result : Result Heard LinkFault)
+    → HasHeard checked known bytes old → IsBookFor checked known before
     → HearLeaves (ear_phase old) old new before after piece sent result
     → ear_started old ≡ None → (slot start : ℕ) → ear_started new ≡ Some (slot, start)
     → confirmed_at (book_slots before) slot < start → Requests (frames_in (bytes ++ piece)) slot start

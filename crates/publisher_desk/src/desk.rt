@@ -390,8 +390,8 @@ impl<P: Publishing> Desk<P> {
     }
 
     /// Lets the task of a connection use the book and the state of each slot's connection, and acquire a slot. The
-    /// connection has then seen the log and all events. Nothing is done after more acquisitions than a number of 64 bits
-    /// counts.
+    /// connection has then seen the log and all events. Nothing is done after more acquisitions than a number of 64
+    /// bits counts.
     #[tactic(auto, using(crate::proofs::SlotLemmas::unacquired_events, crate::proofs::SlotLemmas::acquired_events))]
     pub(crate) fn with_stream<U: StreamTask>(
         &mut self,

@@ -331,9 +331,9 @@ impl<P: Publishing> Publisher<P> {
         answer
     }
 
-    /// Lets the task of a connection use the book and the state of each slot's connection, under the lock, and acquire a
-    /// slot that is free, which the connection then has. The book's log is the one that the viewer has then seen. None
-    /// if so many streams have acquired slots that a number of 64 bits counts no more; then nothing is done.
+    /// Lets the task of a connection use the book and the state of each slot's connection, under the lock, and acquire
+    /// a slot that is free, which the connection then has. The book's log is the one that the viewer has then seen.
+    /// None if so many streams have acquired slots that a number of 64 bits counts no more; then nothing is done.
     pub fn with_stream<U: StreamTask, R: Wait>(
         &self,
         rt: &R,

@@ -2,8 +2,8 @@
 
 use tables_log::{Lsn, SlotNumber};
 
-/// A slot that was acquired for a stream: where the stream starts, and whether its client requested that position, which
-/// is after what was confirmed for the slot.
+/// A slot that was acquired for a stream: where the stream starts, and whether its client requested that position,
+/// which is after what was confirmed for the slot.
 #[derive(Clone, Copy, Debug, PartialEq, Eq)]
 pub struct Acquisition {
     pub slot: SlotNumber,

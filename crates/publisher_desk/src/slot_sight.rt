@@ -13,8 +13,8 @@ pub struct Hold {
     pub number: u64,
 }
 
-/// The first events that a connection has seen, and the slot that it has, if it has one. It is only for proofs: no value
-/// of it is made.
+/// The first events that a connection has seen, and the slot that it has, if it has one. It is only for proofs: no
+/// value of it is made.
 pub struct SlotSight {
     pub events: LinkedList<SlotEvent>,
     pub held: Option<Hold>,

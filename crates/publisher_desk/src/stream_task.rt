@@ -11,10 +11,10 @@ use crate::connection_state::ConnectionState;
 use crate::slot_event::Acquisition;
 use tables_log::Book;
 
-/// Uses the book and the state of each slot's connection, under a publisher's lock, and may acquire a slot that is free.
-/// It may change the slots and nothing else of the book, and sets no sent position after the log's end. `number` is that
-/// of the next acquisition. `did` relates the task, the book and the connections before a call to those after it, to the
-/// number, to the slot that was acquired, and to the answer.
+/// Uses the book and the state of each slot's connection, under a publisher's lock, and may acquire a slot that is
+/// free. It may change the slots and nothing else of the book, and sets no sent position after the log's end. `number`
+/// is that of the next acquisition. `did` relates the task, the book and the connections before a call to those after
+/// it, to the number, to the slot that was acquired, and to the answer.
 pub trait StreamTask {
     type Answer;
 

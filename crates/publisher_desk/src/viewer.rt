@@ -7,8 +7,8 @@ use crate::naming::Publishing;
 use crate::slot_history::SlotToken;
 use std::marker::Model;
 
-/// What a connection knows of a publisher, for proofs: it takes no bytes. Contracts see the beginning of the log and the
-/// events of slots that the connection has seen, and the slot that it has.
+/// What a connection knows of a publisher, for proofs: it takes no bytes. Contracts see the beginning of the log and
+/// the events of slots that the connection has seen, and the slot that it has.
 #[derive(Drop)]
 pub struct Viewer<P: Publishing> {
     /// None before it is shown the log for the first time.
@@ -37,8 +37,8 @@ impl<P: Publishing> Viewer<P> {
     ghost use Rattle.std.specs.Prelude.{◌≡◌};
     ghost use Rattle.publisher_desk.specs.Viewers.{IsAcceptedLog, new_viewer};
 
-    /// That the log that the connection has seen is of transactions each of which was accepted after those before it; no
-    /// code.
+    /// That the log that the connection has seen is of transactions each of which was accepted after those before it;
+    /// no code.
     pub fn is_accepted(&self)
         ensures { IsAcceptedLog P.checked self.now.seen }
     {

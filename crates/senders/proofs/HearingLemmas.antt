@@ -1,6 +1,6 @@
 -- What a listener has heard, piece by piece.
-use Rattle.std.proofs.Common.{◌≡◌, ◌≤◌, ℕ, suc, min, List, [], ◌∷◌, ◌++◌, length, refl, sym, ◌∙◌, ap, subst, append_assoc, append-nil, arith, take_all}
-use Rattle.std.specs.Prelude.{Bool, true, false, Contains, Option, Some, None, Result, Ok, Err, IfErr, slice_get}
+use Rattle.std.proofs.Common.{◌≡◌, ◌≤◌, ℕ, min, List, [], ◌++◌, length, refl, sym, ◌∙◌, ap, subst, append_assoc, append-nil, arith, take_all}
+use Rattle.std.specs.Prelude.{Bool, true, false, Option, Some, None, Result, Ok, Err, IfErr, slice_get}
 use Rattle.std.proofs.Math.Nat.{le-max_left}
 use Rattle.std.proofs.KnownBytes.{Consumes-nil, Consumes-trans}
 use Rattle.shard_checker.specs.CheckedView.{CheckedOf, setting_in}
@@ -28,17 +28,13 @@ use Rattle.copy_both.specs.Hearing.{HearingOf, ServedFrom, first_sent, frames_he
 use Rattle.copy_both.specs.Listening.{Leaves, PieceLeaves, fed, held_frames, piece_heard, silence}
 use Rattle.copy_both.specs.Sessions.{hearing_view, served_by}
 use Rattle.publisher_desk.specs.Receipts.{transactions_of}
-use Rattle.publisher_desk.specs.SlotEvents.{no_use, use_after, use_by, use_from, uses_from, uses_in}
-use Rattle.publisher_desk.specs.SlotSights.{hold}
-use Rattle.publisher_desk.specs.Viewers.{IsUsed, SeesMore, ViewerOf, events_with, held_with}
+use Rattle.publisher_desk.specs.SlotEvents.{use_after}
+use Rattle.publisher_desk.specs.Viewers.{IsUsed, SeesMore, ViewerOf}
 use Rattle.publisher_desk.specs.declared.connection_state.ConnectionState.{ConnectionState}
 use Rattle.publisher_desk.specs.declared.slot_event.Acquisition.{Acquisition}
-use Rattle.publisher_desk.specs.declared.slot_event.SlotEvent.{SlotEvent}
-use Rattle.publisher_desk.specs.declared.slot_event.SlotEvent.TheVariants.{Acquired}
-use Rattle.publisher_desk.specs.declared.slot_sight.Hold.{Hold}
 use Rattle.senders.specs.Hearing.{HearsPiece, IsExplained, IsSentFrom, StaysStarted, sent_after, sent_by}
 use Rattle.senders.specs.Listening.{AcquiresFor, EndsFor, EndsOf, HasListened, HeardPiece, HoldsStream, HearsLast, HearsMore, HearsNext, SaysOfPiece, SaysRequested, next_by, next_by_end, piece_of}
-use Rattle.senders.specs.Results.{acquisition, books_seen}
+use Rattle.senders.specs.Results.{books_seen}
 use Rattle.senders.specs.declared.failed.Failed.{Failed}
 use Rattle.senders.specs.declared.listener.Listened.{Listened}
 use Rattle.senders.proofs.SeenLogs.{AreMore, books_more, heard_still, sees_on, sees_same}
@@ -48,6 +44,7 @@ use Rattle.senders.specs.declared.listener_end.ListenerEnd.TheVariants as listen
 use Rattle.senders.specs.declared.listener.Listener.{Listener}
 use Rattle.senders.specs.declared.next.Next.{Next}
 use Rattle.senders.specs.declared.next.Next.TheVariants as next
+use Rattle.senders.proofs.HoldingLemmas.{holding_after, use_among}
 
 -- ---- a piece, all of whose frames were heard before memory was refused
 
@@ -205,56 +202,6 @@ module _ (checked : CheckedOf) (was now : ViewerOf) (more : AreMore (books_seen 
   pub says_requested : (bytes : List ℕ) → HasListened checked was bytes before
       → SaysRequested (bytes ++ piece_of before) after
   says_requested bytes has = says_of_piece bytes has (ear_started before.ear) refl
-
--- ---- the slot
-
-holding_as : (start : Option (ℕ × ℕ)) (is_requested other : Bool) (number : ℕ) (held : Option Hold)
-    → ((started : ℕ × ℕ) → start ≡ Some started → other ≡ is_requested) → HoldsStream start is_requested number held
-    → HoldsStream start other number held
-holding_as None is_requested other number held same holds = holds
-holding_as (Some started) is_requested other number held same holds =
-    holds ∙ ap (λ (b : Bool). Some (hold (acquisition started.0 started.1 b) number)) (sym (same started refl))
-
-kept_start : (was now : Option (ℕ × ℕ)) → ((started : ℕ × ℕ) → was ≡ Some started → now ≡ Some started)
-    → (was ≡ None → now ≡ None) → now ≡ was
-kept_start None now stays none = none refl
-kept_start (Some started) now stays none = stays started refl
-
--- a piece keeps what the connection has, or it acquires the slot of the stream that starts
-holding_after : (before after : Listener) (was now : Option Hold) (number : ℕ) (acquired : Option Acquisition)
-    → StaysStarted before.ear after.ear
-    → ((started : ℕ × ℕ) → ear_started before.ear ≡ Some started → after.is_requested ≡ before.is_requested)
-    → AcquiresFor before after number acquired → now ≡ held_with acquired number was
-    → HoldsStream (ear_started before.ear) before.is_requested before.number was
-    → HoldsStream (ear_started after.ear) after.is_requested after.number now
-holding_after before after was now number None runs stays acquires same holds =
-    subst (λ (start : Option (ℕ × ℕ)). HoldsStream start after.is_requested after.number now)
-    (sym (kept_start (ear_started before.ear) (ear_started after.ear) runs acquires.0))
-    (subst (λ (n : ℕ). HoldsStream (ear_started before.ear) after.is_requested n now) (sym acquires.1)
-    (subst (HoldsStream (ear_started before.ear) after.is_requested before.number) (sym same)
-    (holding_as (ear_started before.ear) before.is_requested after.is_requested before.number was stays holds)))
-holding_after before after was now number (Some one) runs stays acquires same holds =
-    subst (λ (start : Option (ℕ × ℕ)). HoldsStream start after.is_requested after.number now) (sym acquires.1)
-    (same ∙ (ap (λ (b : Bool). Some (hold (acquisition one.slot one.start b) number)) (sym acquires.2)
-    ∙ ap (λ (n : ℕ). Some (hold (acquisition one.slot one.start after.is_requested) n)) (sym acquires.3)))
-
--- the slots in use after all events are among those of its beginnings
-uses_last : (used : ℕ → Bool) (events more : List SlotEvent)
-    → Contains (uses_from used (events ++ more)) (use_from used events)
-uses_last used [] [] = (0, omega arith, refl)
-uses_last used [] (event ∷ more) = (0, omega arith, refl)
-uses_last used (event ∷ events) more =
-    let rest = uses_last (use_by event used) events more in
-    let low = rest.1 in (suc rest.0, omega (arith, low), rest.2)
-
-use_among : (acquired : Option Acquisition) (events now : List SlotEvent) → now ≡ events_with acquired events
-    → Contains (uses_in now) (use_after events)
-use_among None events now same =
-    subst (λ (list : List SlotEvent). Contains (uses_in list) (use_after events)) (append-nil events ∙ sym same)
-    (uses_last no_use events [])
-use_among (Some one) events now same =
-    subst (λ (list : List SlotEvent). Contains (uses_in list) (use_after events)) (sym same)
-    (uses_last no_use events (Acquired one ∷ []))
 
 -- ---- a use of the slots by a listener
 

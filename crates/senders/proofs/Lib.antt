@@ -6,6 +6,7 @@ pub mod FlushingLemmas
 pub mod FollowingLemmas
 pub mod GatheringLemmas
 pub mod HearingLemmas
+pub mod HoldingLemmas
 pub mod LoggedLemmas
 pub mod NumberLemmas
 pub mod ReachLemmas

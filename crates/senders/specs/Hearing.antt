@@ -31,8 +31,8 @@ abbrev pub sent_by : Option (ℕ × ℕ) → List ConnectionState → ℕ
 sent_by None connections = 0
 sent_by (Some started) connections = sent_after (first_sent started.1) (slice_get connections started.0)
 
--- The bytes have this fault, where the log was a beginning of the one that is known, and some position from the start on
--- was sent. The log has the start if a status is ahead, which is then after the start.
+-- The bytes have this fault, where the log was a beginning of the one that is known, and some position from the start
+-- on was sent. The log has the start if a status is ahead, which is then after the start.
 pub record HoldsFault (checked : CheckedOf) (known : BooksOf) (bytes : List ℕ) (started : Option (ℕ × ℕ))
     (fault : LinkFault) : Type 0 where
   pub transactions : List Transaction

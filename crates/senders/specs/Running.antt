@@ -93,18 +93,21 @@ pub data ServesOut (checked : CheckedOf) (was now : ViewerOf) (left now_left : O
   Unstarted : (why : ListenerEnd) → EndsAt checked was now left now_left source_failed source_ended old new None why
       → AnswersAs why before after sink_failed (ear_refusal new.ear) → outcome.slot ≡ None → outcome.start ≡ None
       → outcome.taken.items ≡ [] → outcome.end ≡ cause_by why
-      → ServesOut checked was now left now_left source_failed source_ended before after sink_failed old new sender outcome
+      → ServesOut checked was now left now_left source_failed source_ended before after sink_failed old new sender
+      outcome
   EndedAtOnce : (started : ℕ × ℕ) (why : ListenerEnd)
       → EndsAt checked was now left now_left source_failed source_ended old new (Some started) why
       → Streams checked started.0 started.1 before after sink_failed (Some why) outcome
       → TakesLogged checked new_viewer sender (commits_of outcome)
-      → ServesOut checked was now left now_left source_failed source_ended before after sink_failed old new sender outcome
+      → ServesOut checked was now left now_left source_failed source_ended before after sink_failed old new sender
+      outcome
   Streamed : (started : ℕ × ℕ) (between : ViewerOf) (middle_left : Option (List ℕ)) (middle : Listener)
       → StartsOn checked was between left middle_left old middle started
       → RunsOn checked between now started.0 started.1 middle_left now_left source_failed source_ended before after
       sink_failed middle new outcome
       → TakesLogged checked new_viewer sender (commits_of outcome)
-      → ServesOut checked was now left now_left source_failed source_ended before after sink_failed old new sender outcome
+      → ServesOut checked was now left now_left source_failed source_ended before after sink_failed old new sender
+      outcome
 
 -- a connection that has a slot releases it
 abbrev pub ReleasesIf : Option ℕ → ViewerOf → ViewerOf → Type 0

@@ -35,8 +35,8 @@ pub data IsAfterStream (frames : List Frame) (last : List ℕ) : Type 0 where
 -- The commits that were taken up follow one another from the start on, and what was written are the first bytes of
 -- their stream, in each log that has them there; all but where the sink failed or memory was refused. Where the
 -- publisher was finished they are the whole stream.
-pub record IsStream (checked : CheckedOf) (known : BooksOf) (frames : List Frame) (slot start : ℕ) (taken : List CommitOf)
-    (written : List ℕ) (failed : Bool) (why : End) : Type 0 where
+pub record IsStream (checked : CheckedOf) (known : BooksOf) (frames : List Frame) (slot start : ℕ)
+    (taken : List CommitOf) (written : List ℕ) (failed : Bool) (why : End) : Type 0 where
   pub asks : AsksFor checked known frames slot start
   pub follow : Follow (commits_before start) taken
   pub moves : List Move
@@ -51,8 +51,8 @@ pub record IsStream (checked : CheckedOf) (known : BooksOf) (frames : List Frame
   pub whole : why ≡ end.Finished → IsTail rest last
 
 -- The first bytes of the ErrorResponse to a start that was refused were written, all but where the sink failed.
-pub record IsResponse (checked : CheckedOf) (known : BooksOf) (frames : List Frame) (state : SqlState) (written : List ℕ)
-    (failed : Bool) : Type 0 where
+pub record IsResponse (checked : CheckedOf) (known : BooksOf) (frames : List Frame) (state : SqlState)
+    (written : List ℕ) (failed : Bool) : Type 0 where
   pub start : IsRefusedStart checked known frames state
   pub rest : List ℕ
   pub bytes : written ++ rest ≡ error_response start.refusal
@@ -65,16 +65,18 @@ IsUnstartedAnswer checked known frames written failed (end.Link (fault.BadStart 
 IsUnstartedAnswer checked known frames written failed end.Finished = ⊥
 IsUnstartedAnswer checked known frames written failed other = written ≡ []
 
-pub record IsUnstarted (checked : CheckedOf) (known : BooksOf) (frames : List Frame) (taken : List CommitOf) (written : List ℕ)
-    (failed : Bool) (why : End) : Type 0 where
+pub record IsUnstarted (checked : CheckedOf) (known : BooksOf) (frames : List Frame) (taken : List CommitOf)
+    (written : List ℕ) (failed : Bool) (why : End) : Type 0 where
   pub none : taken ≡ []
   pub answer : IsUnstartedAnswer checked known frames written failed why
 
 -- a slot is reported together with a start
-abbrev pub IsWritten : CheckedOf → BooksOf → List Frame → Option ℕ → Option ℕ → List CommitOf → List ℕ → Bool → End → Type 0
+abbrev pub IsWritten : CheckedOf → BooksOf → List Frame → Option ℕ → Option ℕ → List CommitOf → List ℕ → Bool → End
+    → Type 0
 IsWritten checked known frames (Some slot) (Some start) taken written failed why =
     IsStream checked known frames slot start taken written failed why
-IsWritten checked known frames None None taken written failed why = IsUnstarted checked known frames taken written failed why
+IsWritten checked known frames None None taken written failed why =
+    IsUnstarted checked known frames taken written failed why
 IsWritten checked known frames (Some slot) None taken written failed why = ⊥
 IsWritten checked known frames None (Some start) taken written failed why = ⊥
 
@@ -110,8 +112,8 @@ pub data HasClientLeft (source_ended : Bool) (frames : List Frame) (written : Li
 
 -- ---- all of it
 
--- What came of a connection from which these bytes were read. Starts and refusals are those of a book that the publisher
--- has had. If it says that its client requested the position where the stream starts, the first frame does.
+-- What came of a connection from which these bytes were read. Starts and refusals are those of a book that the
+-- publisher has had. If it says that its client requested the position where the stream starts, the first frame does.
 pub record IsServedFor (checked : CheckedOf) (bytes : List ℕ) (source_failed source_ended : Bool)
     (before after : Option (List ℕ)) (sink_failed : Bool) (served : ServedOf) : Type 0 where
   pub written : List ℕ

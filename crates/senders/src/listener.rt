@@ -26,8 +26,8 @@ const SLOTS: usize = 32;
 const PIECE: usize = 16_384;
 
 /// An ear, and the piece that it hears next: the first `filled` bytes; whether the client requested the position where
-/// the stream starts, which is after what was confirmed for the slot; and the number of the acquisition of its slot, 0 if
-/// no stream was started.
+/// the stream starts, which is after what was confirmed for the slot; and the number of the acquisition of its slot, 0
+/// if no stream was started.
 #[derive(Drop)]
 pub struct Listener {
     ear: Ear,
@@ -201,8 +201,8 @@ impl Listener {
         self.number
     }
 
-    /// The acquisition of the slot of a stream that has just started, which the listener notes; `None` if no stream has.
-    /// The client requested the start if it is after what was confirmed.
+    /// The acquisition of the slot of a stream that has just started, which the listener notes; `None` if no stream
+    /// has. The client requested the start if it is after what was confirmed.
     fn acquire(&mut self, was_started: bool, confirmed: &[Lsn], number: u64) -> Option<Acquisition>
         ensures { NotesStartIf was_started confirmed.now number self.old self.new result }
     {

@@ -100,8 +100,8 @@ pub(crate) fn starts_threads<R: Threads>(rt: &R) -> bool {
     }
 }
 
-/// Sends and listens side by side, to the end of the connection. If no other thread can be started, it is heard when its
-/// sender has stopped. Returns what was sent, what the sender has then seen, and why the listener ended, if it did.
+/// Sends and listens side by side, to the end of the connection. If no other thread can be started, it is heard when
+/// its sender has stopped. Returns what was sent, what the sender has then seen, and why the listener ended, if it did.
 pub(crate) fn run_both<
     P: Publishing + Sync,
     S: Source + Send,
@@ -135,8 +135,8 @@ pub(crate) fn run_both<
         rt,
         &mut || -> Option<ListenerEnd>
             requires { 0 < length listener.now.piece.items }
-            ensures { HearsAll P.checked viewer.entry.now viewer.exit.now (S.left reader.entry.now) (S.left reader.exit.now)
-                (S.has_failed reader.exit.now) (S.has_ended reader.exit.now)
+            ensures { HearsAll P.checked viewer.entry.now viewer.exit.now (S.left reader.entry.now)
+                (S.left reader.exit.now) (S.has_failed reader.exit.now) (S.has_ended reader.exit.now)
                 listener.entry.now listener.exit.now result }
         { hear(rt, publisher, viewer, slot, listener, reader) },
         &mut || -> (Sent, Viewer<P>)

@@ -26,7 +26,8 @@ use tables_log::{Commit, SlotNumber};
 /// If this number of bytes wait, they are written before a further commit is taken.
 const BATCH: usize = 65_536;
 
-/// What the sender of the slot does now, if there is something to do, fewer than `BATCH` bytes wait, and they are not due.
+/// What the sender of the slot does now, if there is something to do, fewer than `BATCH` bytes wait, and they are not
+/// due.
 fn step_if<P: Publishing, R: Wait>(
     rt: &R,
     publisher: &Publisher<P>,

@@ -191,9 +191,9 @@ fn serve_started<
     gate: &G,
 ) -> (Outcome, Viewer<P>)
     requires { 0 < length listener.old.piece.items }
-    ensures runs { RunsOn P.checked viewer.old viewer.new started.0 started.1 (S.left reader.old) (S.left reader.new) (S.has_failed reader.new)
-        (S.has_ended reader.new) (W.taken writer.old) (W.taken writer.new) (W.has_failed writer.new)
-        listener.old listener.new result.0 }
+    ensures runs { RunsOn P.checked viewer.old viewer.new started.0 started.1 (S.left reader.old)
+        (S.left reader.new) (S.has_failed reader.new) (S.has_ended reader.new) (W.taken writer.old)
+        (W.taken writer.new) (W.has_failed writer.new) listener.old listener.new result.0 }
     ensures logged { TakesLogged P.checked new_viewer result.1 (commits_of result.0) }
 {
     let mut voice = match open(publisher, started, writer) {
