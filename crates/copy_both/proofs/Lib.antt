@@ -28,6 +28,7 @@ pub mod StartBounds
 pub mod StartLemmas
 pub mod StartUses
 pub mod StartsReported
+pub mod StatusesHeard
 pub mod StreamLemmas
 pub mod TokenLoops
 pub mod Utf8Texts

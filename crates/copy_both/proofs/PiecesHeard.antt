@@ -32,7 +32,7 @@ use Rattle.copy_both.proofs.StartsReported.{all_reported}
 
 -- ---- more bytes
 
-frames_after : (frames : List Frame) (last : FrameCut) → frames_of (after_frames frames last) ≡ frames ++ frames_of last
+pub frames_after : (frames : List Frame) (last : FrameCut) → frames_of (after_frames frames last) ≡ frames ++ frames_of last
 frames_after [] last = refl
 frames_after (first ∷ frames) last = ap (λ (x : List Frame). first ∷ x) (frames_after frames last)
 
@@ -410,7 +410,7 @@ late_starts_are_requested checked known bytes piece old new before after sent re
     (subst (λ p. HearLeaves p old new before after piece sent result) has.phase_is left)
 
 -- whatever bytes follow, the frames that were heard come first
-frames_more : (checked : CheckedOf) (known : BooksOf) (bytes more : List ℕ) (ear : Ear) → HasHeard checked known bytes ear
+pub frames_more : (checked : CheckedOf) (known : BooksOf) (bytes more : List ℕ) (ear : Ear) → HasHeard checked known bytes ear
     → frames_in (bytes ++ more) ≡ frames_in bytes ++ frames_of (cut 65536 (rest_of (cut 65536 bytes) ++ more))
 frames_more checked known bytes more ear has =
     ap frames_of (cut_more 65536 bytes more has.good ∙ more_after 65536 more (cut 65536 bytes) has.good)

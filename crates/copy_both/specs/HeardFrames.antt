@@ -9,6 +9,7 @@ use Rattle.tables_log.specs.Lsn.{end_lsn_of}
 use Rattle.tables_log.specs.Slots.{AreInUse, confirmed_at}
 use Rattle.tables_log.specs.StandsFor.{Transaction, StandsFor}
 use Rattle.tables_log.specs.declared.book.Book.{Book}
+use Rattle.tables_log.specs.declared.slots.Slot.{Slot}
 use Rattle.copy_frames.specs.Contents.{status_in}
 use Rattle.copy_frames.specs.Frames.{cut, frames_of, rest_of, fault_in}
 use Rattle.copy_frames.specs.declared.fault.FrameFault.TheVariants as frame
@@ -163,6 +164,14 @@ pub record HasStatusAhead (frames : List Frame) (reach : ℕ) : Type 0 where
   pub is_status : IsStatus frame status
   pub ahead : reach < status.flushed
 
+-- a status after the first frame confirms the log up to here
+pub record HasStatus (frames : List Frame) (position : ℕ) : Type 0 where
+  pub frame : Frame
+  pub later : IsLater frame frames
+  pub status : Status
+  pub is_status : IsStatus frame status
+  pub flushed_is : status.flushed ≡ position
+
 -- what a fault says about the bytes, if statuses may confirm up to here
 abbrev pub HasLinkFault : CheckedOf → BooksOf → List ℕ → ℕ → LinkFault → Type 0
 HasLinkFault checked known bytes reach fault.FrameTooLong = fault_in 65536 bytes ≡ Some frame.FrameTooLong
@@ -236,3 +245,18 @@ LateStartsAreRequested = (checked : CheckedOf) (known : BooksOf) (bytes piece : 
     → HearLeaves (ear_phase old) old new before after piece sent result
     → ear_started old ≡ None → (slot start : ℕ) → ear_started new ≡ Some (slot, start)
     → confirmed_at (book_slots before) slot < start → Requests (frames_in (bytes ++ piece)) slot start
+
+-- a slot is confirmed as it was, or up to the position of a status on the connection of its stream
+pub data ConfirmsAs (frames : List Frame) (started : Option (ℕ × ℕ)) (before after : List Slot) (slot : ℕ) : Type 0
+  where
+    Stays : confirmed_at after slot ≡ confirmed_at before slot → ConfirmsAs frames started before after slot
+    Confirms : (start : ℕ) → started ≡ Some (slot, start) → HasStatus frames (confirmed_at after slot)
+        → ConfirmsAs frames started before after slot
+
+-- with the piece only the slot of the stream is confirmed, and only up to where a status says
+abbrev pub StatusesConfirm : Type 0
+StatusesConfirm = (checked : CheckedOf) (known : BooksOf) (bytes piece : List ℕ) (old new : Ear)
+    (before after : Book) (sent : ℕ) (result : Result Heard LinkFault)
+    → HasHeard checked known bytes old → IsBookFor checked known before
+    → HearLeaves (ear_phase old) old new before after piece sent result → (slot : ℕ)
+    → ConfirmsAs (frames_in (bytes ++ piece)) (ear_started new) (book_slots before) (book_slots after) slot

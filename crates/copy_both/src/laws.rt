@@ -1,7 +1,7 @@
 //! Laws about streams.
 
 ghost use Rattle.copy_both.specs.Ears.{HearingChangesSlots, LosingChangesSlots, StartsTakeSlots};
-ghost use Rattle.copy_both.specs.HeardFrames.{LateStartsAreRequested, NothingIsHeard, PiecesAreHeard};
+ghost use Rattle.copy_both.specs.HeardFrames.{LateStartsAreRequested, NothingIsHeard, PiecesAreHeard, StatusesConfirm};
 ghost use Rattle.copy_both.specs.LinkLaws as links;
 ghost use Rattle.copy_both.specs.SeenStreams.{StreamsTellTransactions};
 ghost use Rattle.copy_both.specs.StreamLaws.{StreamStarts, StreamTakes, StreamKeeps, StreamPasses, StreamGrows};
@@ -82,8 +82,9 @@ pub fn ears_change_slots()
 /// comes after the last whole frame. If a stream was started, the first frame is a Query that requests it, and the book
 /// with which that frame was heard started it: at the requested position, or at the slot's confirmed position if that
 /// is later. So a stream that starts after the confirmed position starts at the requested one (`requested`). A start
-/// remains, and is reported once. A fault is that of a length, of the first frame's start, or of a later frame; and an
-/// end is that of a frame of this kind. A start that is refused has the ErrorResponse of its refusal. The law holds for
+/// remains, and is reported once. A slot is confirmed only on the connection of its stream, and only up to the position
+/// of a status (`confirmed`). A fault is that of a length, of the first frame's start, or of a later frame; and an end
+/// is that of a frame of this kind. A start that is refused has the ErrorResponse of its refusal. The law holds for
 /// books of the checked catalog that are among those that a publisher has had (`BooksOf`): each is that of a beginning
 /// of the log, and its slots were in use as they were at some time.
 ///
@@ -92,6 +93,7 @@ pub fn frames_are_heard()
     ensures first { NothingIsHeard }
     ensures pieces { PiecesAreHeard }
     ensures requested { LateStartsAreRequested }
+    ensures confirmed { StatusesConfirm }
 {}
 
 /// Accepts what may be sent to another thread.
