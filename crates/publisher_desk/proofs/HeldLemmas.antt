@@ -28,11 +28,13 @@ use Rattle.publisher_desk.specs.Held.{IsLogOf, AddsEntry, AreEventsOf, IsBookOf,
 use Rattle.publisher_desk.specs.Logged.{IsHistoryOf, Refuses}
 use Rattle.publisher_desk.specs.Receipts.{ReceiptOf, receipt_of, transactions_of}
 use Rattle.publisher_desk.specs.Sights.{AddsTo, Sees, view_of}
-use Rattle.publisher_desk.specs.SlotEvents.{use_after}
+use Rattle.publisher_desk.specs.SlotEvents.{AreDated, use_after}
 use Rattle.publisher_desk.specs.SlotSights.{slot_view}
 use Rattle.publisher_desk.specs.declared.sight.Sight.{Sight}
 use Rattle.publisher_desk.specs.declared.sight.HistoryView.{HistoryView}
 use Rattle.publisher_desk.specs.declared.connection_state.ConnectionState.{ConnectionState}
+use Rattle.publisher_desk.specs.declared.slot_event.SlotEvent.{SlotEvent}
+use Rattle.publisher_desk.specs.declared.slot_event.SlotEvent.TheVariants.{Acquired, Released}
 use Rattle.publisher_desk.specs.declared.slot_sight.SlotView.{SlotView}
 use Rattle.tables_log.proofs.SlotUses.{new_unused}
 
@@ -41,6 +43,14 @@ sent_longer : (connections : List ConnectionState) (commits more : ℕ) → comm
     → All (λ (connection : ConnectionState). connection.sent ≤ end_lsn_of more) connections
 sent_longer connections commits more longer sent place other low =
     let one = sent place other low in omega (arith, one)
+
+dated_longer : (commits more : ℕ) → commits ≤ more → (events : List SlotEvent) → AreDated commits events
+    → AreDated more events
+dated_longer commits more longer [] dated = tt
+dated_longer commits more longer (Acquired one ∷ events) dated =
+    (tt, dated_longer commits more longer events dated.1)
+dated_longer commits more longer (Released one ∷ events) dated =
+    let low = dated.0 in (omega (arith, low, longer), dated_longer commits more longer events dated.1)
 
 -- ---- the book
 
@@ -72,7 +82,11 @@ new_held one checked book limit most total count idle connections history events
           (All-replicate (λ (c : ConnectionState). c.sent ≤ end_lsn_of (length (book_log book))) count idle
           (omega (arith, unsent)));
       history_is = subst (IsHistoryOf book) (sym empty) (record { stands = stands; idle = refl });
-      events_are = subst (AreEventsOf book) (sym eventless) (record { used = new_unused book one limit new; idle = refl });
+      events_are = subst (AreEventsOf book) (sym eventless) (record {
+        used = new_unused book one limit new;
+        dated = tt;
+        idle = refl;
+      });
     }
 
 pub commit_held : (checked : CheckedOf) (limit : ℕ) (old new : Book) (commands : List Command)
@@ -98,6 +112,8 @@ commit_held checked limit old new commands time number total more connections hi
       history_is = of_new;
       events_are = record {
         used = subst (AreInUse (use_after events.all)) (sym commits.slots) held.events_are.used;
+        dated = dated_longer (length (book_log old)) (length (book_log new)) (omega (arith, count)) events.all
+            held.events_are.dated;
         idle = held.events_are.idle;
       };
     }
@@ -125,10 +141,17 @@ slots_held checked limit old new slots total connections history events changes 
   events_are = now;
 }
 
+-- the log is the same
+pub dated_same : (old new : Book) (slots : List Slot) → ChangesSlots old new slots → (events : List SlotEvent)
+    → AreDated (length (book_log old)) events → AreDated (length (book_log new)) events
+dated_same old new slots changes events dated =
+    subst (λ (n : ℕ). AreDated n events) (sym (ap length changes.log)) dated
+
 pub kept_events : (old new : Book) (slots : List Slot) (events : SlotView) → ChangesSlots old new slots
     → KeepsUse (book_slots old) slots → AreEventsOf old events → AreEventsOf new events
 kept_events old new slots events changes keeps are = record {
   used = subst (AreInUse (use_after events.all)) (sym changes.slots_are) (keeps (use_after events.all) are.used);
+  dated = dated_same old new slots changes events.all are.dated;
   idle = are.idle;
 }
 

@@ -1,5 +1,5 @@
 -- What a connection does with the slots keeps what the lock holds, and what it then knows.
-use Rattle.std.proofs.Common.{◌≡◌, ℕ, ◌+◌, List, [], ◌∷◌, ◌++◌, Bool, true, false, refl, sym, ap, ◌∙◌, subst, append-nil}
+use Rattle.std.proofs.Common.{◌≡◌, ℕ, ◌+◌, List, [], ◌∷◌, ◌++◌, Bool, true, false, refl, sym, ap, ◌∙◌, subst, append-nil, cond, eq-eqb, length, arith}
 use Rattle.std.specs.Prelude.{Option, Some, None}
 use Rattle.shard_checker.specs.CheckedView.{CheckedOf, setting_in}
 use Rattle.table_changes.specs.Tables.{no_rows}
@@ -13,19 +13,21 @@ use Rattle.publisher_desk.specs.Held.{AreEventsOf}
 use Rattle.publisher_desk.specs.Logged.{IsHistoryOf}
 use Rattle.publisher_desk.specs.Receipts.{ReceiptOf, transactions_of}
 use Rattle.publisher_desk.specs.Sights.{Sees, StartsWith}
-use Rattle.publisher_desk.specs.SlotEvents.{Acquires, MayAcquire, acquisitions, use_after}
+use Rattle.publisher_desk.specs.SlotEvents.{Acquires, AreDated, IsDated, MayAcquire, acquisitions, use_after}
 use Rattle.publisher_desk.specs.SlotSights.{AddsEvent, BeginsWith, HasSlot, MayHaveSlot, SeesEvents, hold, slot_view}
-use Rattle.publisher_desk.specs.Viewers.{ChangesSight, HadSlot, HasReleased, Holds, IsAcceptedLog, IsUsed, IsUsedIf, IsStreamed, IsStreamedIf, Releases, SeesLog, SeesMore, ViewerOf, events_with, held_with, log_seen}
+use Rattle.publisher_desk.specs.Viewers.{ChangesSight, HadSlot, HasReleased, Holds, IsAcceptedLog, IsUsed, IsUsedIf, IsStreamed, IsStreamedIf, Releases, SeesLog, SeesMore, ViewerOf, events_with, held_with, log_seen, release}
 use Rattle.publisher_desk.specs.declared.connection_state.ConnectionState.{ConnectionState}
 use Rattle.publisher_desk.specs.declared.sight.HistoryView.{HistoryView}
 use Rattle.publisher_desk.specs.declared.sight.Sight.{Sight}
 use Rattle.publisher_desk.specs.declared.slot_event.Acquisition.{Acquisition}
+use Rattle.publisher_desk.specs.declared.slot_event.Release.{Release}
 use Rattle.publisher_desk.specs.declared.slot_event.SlotEvent.{SlotEvent}
 use Rattle.publisher_desk.specs.declared.slot_event.SlotEvent.TheVariants.{Acquired, Released}
 use Rattle.publisher_desk.specs.declared.slot_sight.Hold.{Hold}
 use Rattle.publisher_desk.specs.declared.slot_sight.SlotSight.{SlotSight}
 use Rattle.publisher_desk.specs.declared.slot_sight.SlotView.{SlotView}
-use Rattle.publisher_desk.proofs.HeldLemmas.{kept_events}
+use Rattle.publisher_desk.proofs.HeldLemmas.{dated_same, kept_events}
+use Rattle.publisher_desk.proofs.LoggedLemmas.{history_long}
 use Rattle.tables_log.proofs.SlotUses.{released_uses}
 use Rattle.publisher_desk.proofs.SlotsKept.{acquired_has, begins_longer, use_more}
 
@@ -36,6 +38,11 @@ pub was_free : (book : Book) (events : SlotView) (new : List Slot) (one : Acquis
     → Acquires (book_slots book) new one → use_after events.all one.slot ≡ false
 was_free book events new one are acquires = sym (are.used one.slot acquires.takes.slot acquires.takes.exists) ∙ acquires.takes.free
 
+dated_push : (commits : ℕ) (events : List SlotEvent) (event : SlotEvent) → AreDated commits events
+    → IsDated commits event → AreDated commits (events ++ event ∷ [])
+dated_push commits [] event dated last = (last, tt)
+dated_push commits (first ∷ events) event dated last = (dated.0, dated_push commits events event dated.1 last)
+
 pub unacquired_events : (old new : Book) (events more : SlotView) (acquired : Option Acquisition)
     → acquired ≡ None → AreEventsOf old events → ChangesSlots old new (book_slots new)
     → MayAcquire (book_slots old) (book_slots new) acquired → more ≡ events → AreEventsOf new more
@@ -44,25 +51,32 @@ unacquired_events old new events more acquired none are changes may same =
     (subst (MayAcquire (book_slots old) (book_slots new)) none may) are)
 
 pub acquired_events : (old new : Book) (events more : SlotView) (acquired : Option Acquisition) (one : Acquisition)
-    → acquired ≡ Some one → AreEventsOf old events → MayAcquire (book_slots old) (book_slots new) acquired
+    → acquired ≡ Some one → AreEventsOf old events → ChangesSlots old new (book_slots new)
+    → MayAcquire (book_slots old) (book_slots new) acquired
     → more ≡ slot_view true (events.all ++ Acquired one ∷ []) [] → AreEventsOf new more
-acquired_events old new events more acquired one some are may same =
+acquired_events old new events more acquired one some are changes may same =
     let acquires : Acquires (book_slots old) (book_slots new) one =
     subst (MayAcquire (book_slots old) (book_slots new)) some may in
     subst (AreEventsOf new) (sym same) (record {
       used = subst (λ (used : ℕ → Bool). AreInUse used (book_slots new)) (sym (use_more events.all (Acquired one)))
           (acquires.takes.uses (use_after events.all) are.used);
+      dated = dated_push (length (book_log new)) events.all (Acquired one)
+          (dated_same old new (book_slots new) changes events.all are.dated) tt;
       idle = refl;
     })
 
-pub released_events : (old new : Book) (events more : SlotView) (slot : ℕ) → AreEventsOf old events
-    → ChangesSlots old new (released (book_slots old) slot)
-    → more ≡ slot_view true (events.all ++ Released slot ∷ []) [] → AreEventsOf new more
-released_events old new events more slot are changes same = subst (AreEventsOf new) (sym same) (record {
-  used = subst (AreInUse (use_after (events.all ++ Released slot ∷ []))) (sym changes.slots_are)
-      (subst (λ (used : ℕ → Bool). AreInUse used (released (book_slots old) slot))
-      (sym (use_more events.all (Released slot)))
-      (released_uses (use_after events.all) (book_slots old) slot are.used));
+pub released_events : (old new : Book) (events more : SlotView) (one : Release)
+    → one.commits ≡ length (book_log old) → AreEventsOf old events
+    → ChangesSlots old new (released (book_slots old) one.slot)
+    → more ≡ slot_view true (events.all ++ Released one ∷ []) [] → AreEventsOf new more
+released_events old new events more one dated are changes same = subst (AreEventsOf new) (sym same) (record {
+  used = subst (AreInUse (use_after (events.all ++ Released one ∷ []))) (sym changes.slots_are)
+      (subst (λ (used : ℕ → Bool). AreInUse used (released (book_slots old) one.slot))
+      (sym (use_more events.all (Released one)))
+      (released_uses (use_after events.all) (book_slots old) one.slot are.used));
+  dated = dated_push (length (book_log new)) events.all (Released one)
+      (dated_same old new (released (book_slots old) one.slot) changes events.all are.dated)
+      (let same_log = ap length changes.log in omega (arith, dated, same_log));
   idle = refl;
 })
 
@@ -127,26 +141,45 @@ changes_has (Some one) all was now changes = acquires_has all one was now change
 
 -- ---- a release
 
-pub releases_none : (slot : ℕ) (was now : SlotSight) → Releases slot was now → MayHaveSlot now.events now.held
-releases_none slot was now releases =
+-- it was released when the log had as many commits as the connection has then seen
+pub releases_at : (slot commits : ℕ) (book : Book) (history : HistoryView) (old new : Sight) (events : List SlotEvent)
+    (was now : SlotSight) → commits ≡ length (book_log book) → IsHistoryOf book history → Sees history.all old new
+    → AddsEvent events (Released (release slot commits)) was now → Releases slot (length new.seen) was now
+releases_at slot commits book history old new events was now commits_are is sees adds = record {
+  events = events;
+  adds = subst (λ (n : ℕ). AddsEvent events (Released (release slot n)) was now)
+      (commits_are ∙ history_long book history is ∙ ap (λ (log : List ReceiptOf). length log) (sym sees.seen)) adds;
+}
+
+pub releases_none : (slot commits : ℕ) (was now : SlotSight) → Releases slot commits was now
+    → MayHaveSlot now.events now.held
+releases_none slot commits was now releases =
     subst (λ (held : Option Hold). MayHaveSlot now.events held) (sym releases.adds.held) tt
 
 -- the slot that it had, as events tell
-had_slot : (all now : List SlotEvent) (slot : ℕ) (mine : Hold) → HasSlot all mine → mine.acquisition.slot ≡ slot
-    → now ≡ all ++ Released slot ∷ [] → HadSlot now mine
-had_slot all now slot mine has same now_is = record {
+had_slot : (all now : List SlotEvent) (slot commits : ℕ) (mine : Hold) → HasSlot all mine
+    → mine.acquisition.slot ≡ slot → now ≡ all ++ Released (release slot commits) ∷ [] → HadSlot now mine commits
+had_slot all now slot commits mine has same now_is = record {
   before = has.before;
   between = has.after;
   after = [];
-  events_are = now_is ∙ (ap (λ (list : List SlotEvent). list ++ Released slot ∷ []) has.events_are
-      ∙ ap (λ (n : ℕ). has.before ++ Acquired mine.acquisition ∷ has.after ++ Released n ∷ []) (sym same));
+  events_are = now_is ∙ (ap (λ (list : List SlotEvent). list ++ Released (release slot commits) ∷ []) has.events_are
+      ∙ ap (λ (n : ℕ). has.before ++ Acquired mine.acquisition ∷ has.after ++ Released (release n commits) ∷ [])
+      (sym same));
   number_is = has.number_is;
   alone = has.alone;
 }
 
+free_then : (all now : List SlotEvent) (slot commits : ℕ) (mine : Hold) → mine.acquisition.slot ≡ slot
+    → now ≡ all ++ Released (release slot commits) ∷ [] → use_after now mine.acquisition.slot ≡ false
+free_then all now slot commits mine same now_is =
+    ap (λ (list : List SlotEvent). use_after list mine.acquisition.slot) now_is
+    ∙ (ap (λ (used : ℕ → Bool). used mine.acquisition.slot) (use_more all (Released (release slot commits)))
+    ∙ ap (λ b. cond b false (use_after all mine.acquisition.slot)) (eq-eqb mine.acquisition.slot slot same))
+
 pub has_released : (slot : ℕ) (before after : ViewerOf) (was now : SlotSight) → before.held ≡ was.held
-    → after.events ≡ now.events → after.held ≡ now.held → Holds was.held slot → Releases slot was now
-    → HasReleased before after
+    → after.events ≡ now.events → after.held ≡ now.held → Holds was.held slot
+    → Releases slot (length after.seen) was now → HasReleased before after
 has_released slot before after was now old_is events_are new_is holds releases =
     let adds = releases.adds in
     let kept : HasSlot releases.events holds.mine =
@@ -154,19 +187,22 @@ has_released slot before after was now old_is events_are new_is holds releases =
     record {
       mine = holds.mine;
       was = old_is ∙ holds.held_is;
-      had = had_slot releases.events after.events slot holds.mine kept holds.slot_is (events_are ∙ adds.seen);
+      had = had_slot releases.events after.events slot (length after.seen) holds.mine kept holds.slot_is
+          (events_are ∙ adds.seen);
+      free = free_then releases.events after.events slot (length after.seen) holds.mine holds.slot_is
+          (events_are ∙ adds.seen);
       none = new_is ∙ adds.held;
     }
 
-pub released_more : (checked : CheckedOf) (slot : ℕ) (viewer : ViewerOf) (old new : Sight) (was now : SlotSight)
+pub released_more : (checked : CheckedOf) (slot commits : ℕ) (viewer : ViewerOf) (old new : Sight) (was now : SlotSight)
     → record { seen = old.seen; events = was.events; held = was.held } ≡ viewer → SeesLog checked old new
-    → Releases slot was now
+    → Releases slot commits was now
     → SeesMore viewer (record { seen = new.seen; events = now.events; held = now.held })
-released_more checked slot viewer old new was now viewer_is sees releases =
+released_more checked slot commits viewer old new was now viewer_is sees releases =
     subst (λ (v : ViewerOf). SeesMore v (record { seen = new.seen; events = now.events; held = now.held })) viewer_is
     (record {
       log = sees_more_log sees.log old new sees.sees;
-      slots = adds_more_events releases.events (Released slot) was now releases.adds;
+      slots = adds_more_events releases.events (Released (release slot commits)) was now releases.adds;
     })
 
 -- ---- a use of the slots

@@ -11,6 +11,7 @@ use Rattle.atomic_table.proofs.Lists.{at_set, at_snoc, set_else}
 use Rattle.publisher_desk.specs.SlotEvents.{LeaveAlone, acquisitions, slot_in, use_after, use_by, use_from}
 use Rattle.publisher_desk.specs.SlotSights.{slot_view, hold, BeginsWith, HasSlot, MayHaveSlot, AreKnown, has_slot, held_in, held_by, FitsEvents, AreSlotsKept, begun, shown_in, shown, held_after, added_in, added, MayHappen, first_in, rest_in, only_in, left, given, joined, nobody}
 use Rattle.publisher_desk.specs.declared.slot_event.Acquisition.{Acquisition}
+use Rattle.publisher_desk.specs.declared.slot_event.Release.{Release}
 use Rattle.publisher_desk.specs.declared.slot_event.SlotEvent.{SlotEvent}
 use Rattle.publisher_desk.specs.declared.slot_event.SlotEvent.TheVariants.{Acquired, Released}
 use Rattle.publisher_desk.specs.declared.slot_sight.Hold.{Hold}
@@ -32,15 +33,15 @@ acquisitions_append : (events more : List SlotEvent)
     → acquisitions (events ++ more) ≡ acquisitions events + acquisitions more
 acquisitions_append [] more = omega arith
 acquisitions_append (Acquired one ∷ events) more = let rest = acquisitions_append events more in omega (arith, rest)
-acquisitions_append (Released slot ∷ events) more = acquisitions_append events more
+acquisitions_append (Released one ∷ events) more = acquisitions_append events more
 
 pub acquired_count : (events : List SlotEvent) (one : Acquisition)
     → acquisitions (events ++ Acquired one ∷ []) ≡ acquisitions events + 1
 acquired_count events one = acquisitions_append events (Acquired one ∷ [])
 
-pub released_count : (events : List SlotEvent) (slot : ℕ)
-    → acquisitions (events ++ Released slot ∷ []) ≡ acquisitions events
-released_count events slot = let all = acquisitions_append events (Released slot ∷ []) in omega (arith, all)
+pub released_count : (events : List SlotEvent) (one : Release)
+    → acquisitions (events ++ Released one ∷ []) ≡ acquisitions events
+released_count events one = let all = acquisitions_append events (Released one ∷ []) in omega (arith, all)
 
 pub alone_append : (slot : ℕ) (events : List SlotEvent) (event : SlotEvent) → LeaveAlone slot events
     → slot_in event ≢ slot → LeaveAlone slot (events ++ event ∷ [])
@@ -175,7 +176,7 @@ acquired_has all one = record { before = all; after = []; events_are = refl; num
 after_event : (all : List SlotEvent) (event : SlotEvent)
     → MayHaveSlot (all ++ event ∷ []) (held_after event (acquisitions all))
 after_event all (Acquired one) = acquired_has all one
-after_event all (Released slot) = tt
+after_event all (Released one) = tt
 
 added_known : (log all : List SlotEvent) (event : SlotEvent) (held : Option Hold) (sights : List SlotSight)
     → all ≡ log ++ event ∷ [] → MayHaveSlot (log ++ event ∷ []) held → others (slot_in event) sights ≡ 0
@@ -254,18 +255,19 @@ module _ (views : List SlotView) (kept : AreSlotsKept views) (by : ℕ) (v : Slo
     no_rest (Acquired one) free =
         let all = unused one free in let some = held_one one.slot views by v at in
         let split = split_first one.slot v.sights in omega (arith, all, some, split)
-    no_rest (Released slot) has =
-        let mine = mine_has slot has in let once = kept.once slot in let some = held_one slot views by v at in
-        let split = split_first slot v.sights in omega (arith, mine, once, some, split)
+    no_rest (Released one) has =
+        let mine = mine_has one.slot has in let once = kept.once one.slot in
+        let some = held_one one.slot views by v at in let split = split_first one.slot v.sights in
+        omega (arith, mine, once, some, split)
 
     no_other : (e : SlotEvent) → MayHappen e v.all (first_in v.sights).held → (j : ℕ) (u : SlotView) → j ≢ by
         → get_elem? views j ≡ some u → held_in (slot_in e) u.sights ≡ 0
     no_other (Acquired one) free j u apart there =
         let all = unused one free in let some = held_one one.slot views j u there in omega (arith, all, some)
-    no_other (Released slot) has j u apart there =
-        let mine = mine_has slot has in let once = kept.once slot in
-        let both = held_two slot views j by u v apart there at in
-        let split = split_first slot v.sights in omega (arith, mine, once, both, split)
+    no_other (Released one) has j u apart there =
+        let mine = mine_has one.slot has in let once = kept.once one.slot in
+        let both = held_two one.slot views j by u v apart there at in
+        let split = split_first one.slot v.sights in omega (arith, mine, once, both, split)
 
     abbrev longer : List SlotEvent
     longer = kept.all ++ event ∷ []
@@ -327,12 +329,12 @@ module _ (views : List SlotView) (kept : AreSlotsKept views) (by : ℕ) (v : Slo
         let none = kept.free slot still in omega (arith, change, mine, none, split))
     free_by (Released other) has slot count unused_then change =
         let split = split_first slot v.sights in
-        dite (ℕ_discrete other slot)
+        dite (ℕ_discrete other.slot slot)
         (λ here. let mine = mine_has slot (subst (λ (n : ℕ). (held : Hold) × ((first_in v.sights).held ≡ Some held)
         × (held.acquisition.slot ≡ n)) here has) in let before = kept.once slot in
         omega (arith, change, mine, before, split))
         (λ apart. let still = sym (ap (λ b. cond b false (use_after kept.all slot))
-        (ne_eqb slot other (λ same. apart (sym same)))) ∙ unused_then in
+        (ne_eqb slot other.slot (λ same. apart (sym same)))) ∙ unused_then in
         let none = kept.free slot still in omega (arith, change, none, split))
 
     change_of : (slot : ℕ) → held_by slot (set views by (added event v)) + held_in slot v.sights

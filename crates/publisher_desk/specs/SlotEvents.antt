@@ -1,6 +1,6 @@
 -- What happens to slots, one event after another: PostgreSQL 15, 27.2.6 Replication Slots, and "Logical Replication",
 -- 31.2.1 Replication Slot Management.
-use Rattle.std.specs.Prelude.{◌≡◌, ◌≢◌, ℕ, ◌+◌, ◌<◌, Bool, true, false, List, [], ◌∷◌, Option, Some, None}
+use Rattle.std.specs.Prelude.{◌≡◌, ◌≢◌, ℕ, ◌+◌, ◌<◌, ◌≤◌, Bool, true, false, List, [], ◌∷◌, Option, Some, None}
 use Rattle.tables_log.specs.Slots.{KeepsUse, TakesUse, confirmed_at, with_use}
 use Rattle.tables_log.specs.declared.slots.Slot.{Slot}
 use Rattle.publisher_desk.specs.declared.slot_event.Acquisition.{Acquisition}
@@ -11,7 +11,7 @@ use Rattle.publisher_desk.specs.declared.slot_event.SlotEvent.TheVariants.{Acqui
 
 abbrev pub use_by : SlotEvent → (ℕ → Bool) → (ℕ → Bool)
 use_by (Acquired one) used = with_use one.slot true used
-use_by (Released slot) used = with_use slot false used
+use_by (Released one) used = with_use one.slot false used
 
 -- the slots in use after these events, if these were in use before
 abbrev pub use_from : (ℕ → Bool) → List SlotEvent → (ℕ → Bool)
@@ -39,11 +39,21 @@ uses_in events = uses_from no_use events
 abbrev pub acquisitions : List SlotEvent → ℕ
 acquisitions [] = 0
 acquisitions (Acquired one ∷ events) = 1 + acquisitions events
-acquisitions (Released slot ∷ events) = acquisitions events
+acquisitions (Released one ∷ events) = acquisitions events
 
 abbrev pub slot_in : SlotEvent → ℕ
 slot_in (Acquired one) = one.slot
-slot_in (Released slot) = slot
+slot_in (Released one) = one.slot
+
+-- A release is dated after no more than so many commits.
+abbrev pub IsDated : ℕ → SlotEvent → Type 0
+IsDated commits (Acquired one) = Unit {0}
+IsDated commits (Released one) = one.commits ≤ commits
+
+-- each of these is
+abbrev pub AreDated : ℕ → List SlotEvent → Type 0
+AreDated commits [] = Unit {0}
+AreDated commits (event ∷ events) = IsDated commits event × AreDated commits events
 
 -- none of these events is of the slot
 abbrev pub LeaveAlone : ℕ → List SlotEvent → Type 0

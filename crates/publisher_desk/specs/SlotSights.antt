@@ -80,7 +80,7 @@ shown view = slot_view view.keeps view.all (shown_in view.all view.sights)
 -- what the connection of an event holds after it, if so many streams had acquired slots before
 abbrev pub held_after : SlotEvent → ℕ → Option Hold
 held_after (Acquired one) count = Some (hold one (count + 1))
-held_after (Released slot) count = None
+held_after (Released one) count = None
 
 abbrev pub added_in : List SlotEvent → Option Hold → List SlotSight → List SlotSight
 added_in all held [] = []
@@ -93,7 +93,7 @@ added event view = slot_view view.keeps (view.all ++ event ∷ [])
 -- A slot is acquired only if it is free, and released only by the connection that has it.
 abbrev pub MayHappen : SlotEvent → List SlotEvent → Option Hold → Type 0
 MayHappen (Acquired one) all held = use_after all one.slot ≡ false
-MayHappen (Released slot) all held = (mine : Hold) × (held ≡ Some mine) × (mine.acquisition.slot ≡ slot)
+MayHappen (Released one) all held = (mine : Hold) × (held ≡ Some mine) × (mine.acquisition.slot ≡ one.slot)
 
 -- ---- cutting and joining
 

@@ -1,6 +1,6 @@
 -- What a connection has seen of a publisher, and what it is answered under the lock: PostgreSQL 15, "Logical
 -- Replication", 31.2.1 Replication Slot Management, and 55.4. Streaming Replication Protocol.
-use Rattle.std.specs.Prelude.{◌≡◌, ℕ, ◌+◌, List, [], ◌∷◌, ◌++◌, Option, Some, None}
+use Rattle.std.specs.Prelude.{◌≡◌, ℕ, ◌+◌, List, [], ◌∷◌, ◌++◌, length, false, Option, Some, None}
 use Rattle.shard_checker.specs.CheckedView.{CheckedOf, setting_in}
 use Rattle.table_changes.specs.Tables.{no_rows}
 use Rattle.tables_log.specs.BookView.{book_slots}
@@ -16,6 +16,7 @@ use Rattle.publisher_desk.specs.SlotSights.{AddsEvent, BeginsWith, SeesEvents, h
 use Rattle.publisher_desk.specs.declared.connection_state.ConnectionState.{ConnectionState}
 use Rattle.publisher_desk.specs.declared.sight.Sight.{Sight}
 use Rattle.publisher_desk.specs.declared.slot_event.Acquisition.{Acquisition}
+use Rattle.publisher_desk.specs.declared.slot_event.Release.{Release}
 use Rattle.publisher_desk.specs.declared.slot_event.SlotEvent.{SlotEvent}
 use Rattle.publisher_desk.specs.declared.slot_event.SlotEvent.TheVariants.{Acquired, Released}
 use Rattle.publisher_desk.specs.declared.slot_sight.Hold.{Hold}
@@ -85,13 +86,16 @@ IsUsedIf did checked old new before after (Some answer) = IsUsed did checked old
 
 -- ---- a release
 
--- The stream acquired its slot, and released it; no event between these is of the slot.
-pub record HadSlot (events : List SlotEvent) (held : Hold) : Type 0 where
+abbrev pub release : ℕ → ℕ → Release
+release slot commits = record { slot = slot; commits = commits }
+
+-- The stream acquired its slot, and released it when the log had so many commits; no event between these is of the slot.
+pub record HadSlot (events : List SlotEvent) (held : Hold) (commits : ℕ) : Type 0 where
   pub before : List SlotEvent
   pub between : List SlotEvent
   pub after : List SlotEvent
   pub events_are : events
-      ≡ before ++ Acquired held.acquisition ∷ between ++ Released held.acquisition.slot ∷ after
+      ≡ before ++ Acquired held.acquisition ∷ between ++ Released (release held.acquisition.slot commits) ∷ after
   pub number_is : held.number ≡ acquisitions before + 1
   pub alone : LeaveAlone held.acquisition.slot between
 
@@ -101,11 +105,12 @@ pub record Holds (held : Option Hold) (slot : ℕ) : Type 0 where
   pub held_is : held ≡ Some mine
   pub slot_is : mine.acquisition.slot ≡ slot
 
--- It has released the slot that it had.
+-- It has released the slot that it had, which is then free. It has seen the log as it was then.
 pub record HasReleased (old new : ViewerOf) : Type 0 where
   pub mine : Hold
   pub was : old.held ≡ Some mine
-  pub had : HadSlot new.events mine
+  pub had : HadSlot new.events mine (length new.seen)
+  pub free : use_after new.events mine.acquisition.slot ≡ false
   pub none : new.held ≡ None
 
 -- ---- a publisher that is being closed
@@ -139,9 +144,9 @@ pub record SeesLog (checked : CheckedOf) (old new : Sight) : Type 0 where
   pub accepted : IsAcceptedLog checked log
 
 -- It has then seen all events, the last of which is this release.
-pub record Releases (slot : ℕ) (was now : SlotSight) : Type 0 where
+pub record Releases (slot commits : ℕ) (was now : SlotSight) : Type 0 where
   pub events : List SlotEvent
-  pub adds : AddsEvent events (Released slot) was now
+  pub adds : AddsEvent events (Released (release slot commits)) was now
 
 -- It has seen all events, and then what it acquired.
 abbrev pub ChangesSight : Option Acquisition → List SlotEvent → SlotSight → SlotSight → Type 0

@@ -13,6 +13,7 @@ use crate::history::{History, HistoryToken};
 use crate::naming::Publishing;
 use crate::note::copy_found;
 use crate::receipt::Receipt;
+use crate::slot_event::Release;
 use crate::slot_history::{SlotHistory, SlotToken};
 use crate::slot_task::SlotTask;
 use crate::step::SenderStep;
@@ -417,7 +418,7 @@ impl<P: Publishing> Desk<P> {
         Some(answer)
     }
 
-    /// Releases the slot that the connection has. The connection has then seen the log and all events.
+    /// Releases the slot that the connection has. The connection has then seen the log, as it is now, and all events.
     #[tactic(auto, using(crate::proofs::SlotLemmas::released_events))]
     pub(crate) fn release(
         &mut self,
@@ -428,11 +429,13 @@ impl<P: Publishing> Desk<P> {
         requires { Holds (slot_sight_of slots.old).held slot }
         ensures log { self.new ≡ self.old }
         ensures seen { SeesLog P.checked (sight_of token.old) (sight_of token.new) }
-        ensures released { Releases slot (slot_sight_of slots.old) (slot_sight_of slots.new) }
+        ensures released { Releases slot (length (sight_of token.new).seen) (slot_sight_of slots.old)
+            (slot_sight_of slots.new) }
     {
+        let commits = self.book.log_len();
         self.book.release(slot);
         self.history.look(token);
-        self.slots.release(slots, slot);
+        self.slots.release(slots, Release { slot, commits });
     }
 
     /// Shows a connection the log, of which what another has seen is a beginning.

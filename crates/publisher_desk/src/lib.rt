@@ -37,7 +37,7 @@ pub use read_fault::ReadFault;
 pub use receipt::Receipt;
 pub use seat::Seat;
 pub use seats::Seats;
-pub use slot_event::{Acquisition, SlotEvent};
+pub use slot_event::{Acquisition, Release, SlotEvent};
 pub use slot_task::SlotTask;
 pub use step::SenderStep;
 pub use stream_task::StreamTask;

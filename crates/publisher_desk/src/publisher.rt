@@ -352,7 +352,8 @@ impl<P: Publishing> Publisher<P> {
         answer
     }
 
-    /// Releases the slot that the connection has: from now on another may acquire it.
+    /// Releases the slot that the connection has: from now on another may acquire it. The connection has then seen the
+    /// log as it was at the release.
     pub fn release<R: Wait>(&self, rt: &R, viewer: &mut Viewer<P>, slot: SlotNumber)
         requires { Holds viewer.old.held slot }
         ensures released { HasReleased viewer.old viewer.new }

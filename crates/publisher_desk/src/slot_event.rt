@@ -1,6 +1,6 @@
 //! What happens to slots.
 
-use tables_log::{Lsn, SlotNumber};
+use tables_log::{CommitNumber, Lsn, SlotNumber};
 
 /// A slot that was acquired for a stream: where the stream starts, and whether its client requested that position,
 /// which is after what was confirmed for the slot.
@@ -11,11 +11,18 @@ pub struct Acquisition {
     pub is_requested: bool,
 }
 
+/// A slot that was released, and the number of commits that the log then had.
+#[derive(Clone, Copy, Debug, PartialEq, Eq)]
+pub struct Release {
+    pub slot: SlotNumber,
+    pub commits: CommitNumber,
+}
+
 /// What happens to a slot: a stream acquires it, or releases it.
 ///
 /// PostgreSQL 15, 27.2.6 Replication Slots.
 #[derive(Clone, Copy, Debug, PartialEq, Eq)]
 pub enum SlotEvent {
     Acquired(Acquisition),
-    Released(SlotNumber),
+    Released(Release),
 }

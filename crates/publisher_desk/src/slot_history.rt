@@ -3,7 +3,7 @@
 ghost use Rattle.std.specs.Prelude.{◌≡◌};
 
 use crate::naming::Publishing;
-use crate::slot_event::{Acquisition, SlotEvent};
+use crate::slot_event::{Acquisition, Release, SlotEvent};
 use crate::slot_sight::{
     AddsSlots, BeginsSlots, ChecksSlots, KeepsSlots, PassesSlots, ShowsSlots, SlotView,
 };
@@ -11,7 +11,6 @@ use atomic_table::{Seat, Table};
 use std::alloc::Global;
 use std::marker::{Model, PhantomData};
 use std::sync::ledger::Total;
-use tables_log::SlotNumber;
 
 /// What a connection knows of the slots. It takes no bytes. Contracts see it as the first events, which the connection
 /// has seen, and the slot that it has.
@@ -202,15 +201,15 @@ impl<P: Publishing> SlotHistory<P> {
     }
 
     /// The connection that has the slot releases it.
-    pub(crate) fn release(&mut self, token: &mut Option<SlotToken<P>>, slot: SlotNumber)
+    pub(crate) fn release(&mut self, token: &mut Option<SlotToken<P>>, one: Release)
         requires idle { self.old ≡ slot_view true self.old.all [] }
-        requires may { MayHappen (Released slot) self.old.all (slot_sight_of token.old).held }
-        ensures log { self.new ≡ slot_view true (self.old.all ++ Released slot ∷ []) [] }
-        ensures seen { AddsEvent self.old.all (Released slot) (slot_sight_of token.old) (slot_sight_of token.new) }
+        requires may { MayHappen (Released one) self.old.all (slot_sight_of token.old).held }
+        ensures log { self.new ≡ slot_view true (self.old.all ++ Released one ∷ []) [] }
+        ensures seen { AddsEvent self.old.all (Released one) (slot_sight_of token.old) (slot_sight_of token.new) }
     {
         let count = self.count;
         self.take_in(token);
-        self.add(&SlotEvent::Released(slot), count);
+        self.add(&SlotEvent::Released(one), count);
         *token = Some(self.give_back());
     }
 

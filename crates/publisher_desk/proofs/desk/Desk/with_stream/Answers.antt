@@ -41,7 +41,8 @@ invariant_of-self-in-Some g c = record {
   sent = grind (arith, common_steps);
   history_is = search rules;
   events_are = acquired_events c.self.inside.book c.use_stream-answer.new.book c.self.inside.slots _ _ c.in-Some.one
-      c.in-Some.is c.self.invariant.events_are c.use_stream-answer.ensures.acquires c.acquire.ensures.log;
+      c.in-Some.is c.self.invariant.events_are c.use_stream-answer.ensures.slots c.use_stream-answer.ensures.acquires
+      c.acquire.ensures.log;
 }
 
 -- what was lent is what the lock holds
