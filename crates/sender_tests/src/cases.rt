@@ -1,24 +1,25 @@
 //! What is done with publishers before they are closed, and how they are closed then.
 
 use crate::cases::Step::{
-    Commit, Confirm, LoseFirst, LoseLast, LoseSeat, Read, Request, Reverse, Serve,
+    Commit, Confirm, LoseFirst, LoseLast, LoseSeat, Read, Request, Reverse, Serve, ServeConfirming,
 };
 use senders::CloseError;
 use senders::CloseError::{ConnectionMissing, CountDiffers, StartLate, TakenDiffers};
 
-/// What is done with a publisher, which has one session. Connections are of the first slot, and their clients confirm
-/// nothing.
+/// What is done with a publisher, which has one session. Connections are of the first slot.
 #[derive(Clone, Copy, Debug, PartialEq, Eq)]
 pub(crate) enum Step {
     /// The session makes a commit with a row for each subscriber.
     Commit,
     /// The session reads a row 100,000 times.
     Read,
-    /// The slot is confirmed up to the end of the first commit.
+    /// The slot is confirmed up to the end of the first commit, which no client does.
     Confirm,
-    /// A connection that starts where the slot is confirmed is served until it is finished.
+    /// A connection that starts where the slot is confirmed is served until it is finished. Its client confirms nothing.
     Serve,
-    /// The same, but its client requests to start after the second commit.
+    /// The same, but its client confirms the first commit.
+    ServeConfirming,
+    /// The client of the connection requests to start after the second commit, and confirms nothing.
     Request,
     /// The results of the connections are put in the opposite order.
     Reverse,
@@ -39,16 +40,18 @@ pub(crate) const CASES: &[Case] = &[
     (&[Commit, Commit, Serve, Read], None),
     (&[Commit, Commit, Serve, LoseSeat], Some(CountDiffers)),
     (&[Commit, Serve, Commit], Some(TakenDiffers)),
-    (&[Commit, Serve, Confirm, Serve, Reverse], None),
+    (&[Commit, ServeConfirming, Serve, Reverse], None),
     (
-        &[Commit, Serve, Confirm, Serve, LoseFirst],
+        &[Commit, ServeConfirming, Serve, LoseFirst],
         Some(ConnectionMissing),
     ),
     (
-        &[Commit, Serve, Confirm, Serve, LoseLast],
+        &[Commit, ServeConfirming, Serve, LoseLast],
         Some(ConnectionMissing),
     ),
     (&[Commit, Commit, Confirm, Serve], Some(StartLate)),
+    // A commit that was sent, but that no client confirmed, does not account for a later start.
+    (&[Commit, Serve, Confirm, Serve], Some(StartLate)),
     // A request accounts for the commits before its position only if its stream started first.
     (&[Commit, Commit, Request, Confirm, Serve, Reverse], None),
     (

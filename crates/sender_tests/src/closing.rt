@@ -21,13 +21,17 @@ use tables_log::{Book, Lsn};
 const AFTER_SECOND: &[u8] = b"Q\0\0\0\x5bSTART_REPLICATION SLOT \"s0\" LOGICAL 0/C0 \
     (proto_version '1', publication_names '\"pa\"')\0";
 
+/// The status of a client that confirms the first commit.
+const CONFIRMS_FIRST: &[u8] =
+    b"d\0\0\0\x26r\0\0\0\0\0\0\0\0\0\0\0\0\0\0\0\x80\0\0\0\0\0\0\0\0\0\0\0\0\0\0\0\0\0";
+
 /// How often a row is read.
 const READINGS: u32 = 100_000;
 
 /// How many connections are served at most until one is finished.
 const TRIES: u32 = 100;
 
-/// Confirms the first slot up to the end of the first commit.
+/// Confirms the first slot up to the end of the first commit, without a client.
 #[derive(Drop)]
 struct ConfirmFirst;
 
@@ -42,33 +46,35 @@ impl SlotTask for ConfirmFirst {
     }
 }
 
-/// The result of a connection of the first slot whose client sends this Query, and closes when its sender has had some
-/// time.
+/// The result of a connection of the first slot whose client sends this Query, then, when its sender has had some time,
+/// these later bytes, and then closes.
 fn serve_once<P: Publishing + Sync, R: Threads + Wait + Clock + Sync>(
     rt: &R,
     publisher: &Publisher<P>,
     board: &Board,
     query: &[u8],
+    later: &[u8],
 ) -> Served<P> {
-    let mut reader = Staying::new(rt, query);
+    let mut reader = Staying::new(rt, query, later);
     let mut writer = Kept::new(rt, board, 0, usize::MAX, usize::MAX);
     serve(rt, publisher, &mut reader, &mut writer, &OpenGate)
 }
 
-/// Finishes the publisher, and serves clients of the first slot that send this Query, one after another, until a sender
-/// has seen that the publisher is finished before its client closes. Adds the result of each, and returns how many
-/// commits the last one took.
+/// Finishes the publisher, and serves clients of the first slot that send this Query and these later bytes, one after
+/// another, until a sender has seen that the publisher is finished before its client closes. Adds the result of each,
+/// and returns how many commits the last one took.
 pub(crate) fn serve_finished<P: Publishing + Sync, R: Threads + Wait + Clock + Abort + Sync>(
     rt: &R,
     alloc: Global,
     publisher: &Publisher<P>,
     query: &[u8],
+    later: &[u8],
     list: &mut Vec<Served<P>>,
 ) -> Result<usize, Fail> {
     publisher.finish(rt);
     let board = Board::new(alloc, Work::Pairs, Hold::Nobody, 0)?;
     for _ in 0..TRIES {
-        let served = serve_once(rt, publisher, &board, query);
+        let served = serve_once(rt, publisher, &board, query, later);
         let (end, count) = (served.end(), served.taken().len());
         list.push(served)?;
         if end == End::Finished {
@@ -113,15 +119,16 @@ fn read_often<P: Publishing, R: Wait>(
     Ok(())
 }
 
-/// Serves a client that starts where the slot is confirmed, until it is finished.
+/// Serves a client that starts where the slot is confirmed, and sends these later bytes, until it is finished.
 fn serve_next<P: Publishing + Sync, R: Threads + Wait + Clock + Abort + Sync>(
     rt: &R,
     alloc: Global,
     publisher: &Publisher<P>,
+    later: &[u8],
     list: &mut Vec<Served<P>>,
 ) -> Result<(), Fail> {
     let query = query(alloc, Work::Pairs, 0)?;
-    serve_finished(rt, alloc, publisher, query.as_slice(), list)?;
+    serve_finished(rt, alloc, publisher, query.as_slice(), later, list)?;
     Ok(())
 }
 
@@ -145,9 +152,10 @@ fn take<P: Publishing + Sync, R: Threads + Wait + Clock + Abort + Sync>(
         Step::Commit => commit(rt, alloc, publisher, seats)?,
         Step::Read => read_often(rt, alloc, publisher, seats)?,
         Step::Confirm => holds(rt, publisher.with_slots(rt, &mut ConfirmFirst)),
-        Step::Serve => serve_next(rt, alloc, publisher, served)?,
+        Step::Serve => serve_next(rt, alloc, publisher, &[], served)?,
+        Step::ServeConfirming => serve_next(rt, alloc, publisher, CONFIRMS_FIRST, served)?,
         Step::Request => {
-            serve_finished(rt, alloc, publisher, AFTER_SECOND, served)?;
+            serve_finished(rt, alloc, publisher, AFTER_SECOND, &[], served)?;
         }
         Step::Reverse => served.as_mut_slice().reverse(),
         Step::LoseFirst => lose_first(served),

@@ -108,19 +108,22 @@ impl<C: Clock> Source for Asking<'_, C> {
     }
 }
 
-/// What a client writes: some bytes. Then it gives its sender some time, and closes. No read fails.
+/// What a client writes: some bytes. Then it gives its sender some time, and writes others, if there are any; and then
+/// some time again, and closes. No read fails.
 #[derive(Drop)]
 pub(crate) struct Staying<'a, C> {
     clock: &'a C,
     left: &'a [u8],
+    later: &'a [u8],
     ended: bool,
 }
 
 impl<'a, C: Clock> Staying<'a, C> {
-    pub(crate) fn new(clock: &'a C, left: &'a [u8]) -> Staying<'a, C> {
+    pub(crate) fn new(clock: &'a C, left: &'a [u8], later: &'a [u8]) -> Staying<'a, C> {
         Staying {
             clock,
             left,
+            later,
             ended: false,
         }
     }
@@ -134,6 +137,8 @@ impl<C: Clock> Source for Staying<'_, C> {
     fn pull(&mut self, piece: &mut [u8]) -> Result<usize, Failed> {
         if self.left.is_empty() {
             thread::sleep(self.clock, Duration::from_millis(GRACE));
+            self.left = self.later;
+            self.later = &[];
         }
         let count = self.left.len().min(piece.len());
         let (now, later) = self.left.split_at(count);

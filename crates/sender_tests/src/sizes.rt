@@ -74,7 +74,7 @@ fn connections<P: Publishing + Sync, R: Threads + Wait + Clock + Abort + Sync>(
     let query = query(alloc, Work::Pairs, 0)?;
     let mut list = Vec::new(alloc);
     for _ in 0..commits % 3 {
-        let taken = serve_finished(rt, alloc, publisher, query.as_slice(), &mut list)?;
+        let taken = serve_finished(rt, alloc, publisher, query.as_slice(), &[], &mut list)?;
         same(rt, taken, commits);
     }
     Ok(list)

@@ -11,7 +11,7 @@ use Rattle.copy_both.specs.VoiceLaws.{AreAt}
 use Rattle.publisher_desk.specs.Receipts.{ReceiptOf, transactions_of}
 use Rattle.publisher_desk.specs.Sights.{StartsWith}
 use Rattle.publisher_desk.specs.SlotSights.{BeginsWith, hold}
-use Rattle.publisher_desk.specs.Viewers.{HadSlot, log_seen}
+use Rattle.publisher_desk.specs.Viewers.{HadSlot, log_seen, release}
 use Rattle.publisher_desk.specs.declared.slot_event.SlotEvent.{SlotEvent}
 use Rattle.publisher_desk.specs.declared.slot_event.SlotEvent.TheVariants.{Acquired, Released}
 use Rattle.publisher_desk.specs.declared.slot_sight.Hold.{Hold}
@@ -79,23 +79,24 @@ two_within : (before between after rest : List SlotEvent) (first second : SlotEv
     → (before ++ first ∷ between ++ second ∷ after) ++ rest ≡ before ++ first ∷ between ++ second ∷ (after ++ rest)
 two_within before between after rest first second = simp append_assoc
 
-pub had_longer : (all events : List SlotEvent) (held : Hold) → BeginsWith all events → HadSlot events held
-    → HadSlot all held
-had_longer all events held (rest, is) had = record {
+pub had_longer : (all events : List SlotEvent) (held : Hold) (commits : ℕ) → BeginsWith all events
+    → HadSlot events held commits → HadSlot all held commits
+had_longer all events held commits (rest, is) had = record {
   before = had.before;
   between = had.between;
   after = had.after ++ rest;
   events_are = is ∙ ap (λ (list : List SlotEvent). list ++ rest) had.events_are
-      ∙ two_within had.before had.between had.after rest (Acquired held.acquisition) (Released held.acquisition.slot);
+      ∙ two_within had.before had.between had.after rest (Acquired held.acquisition)
+      (Released (release held.acquisition.slot commits));
   number_is = had.number_is;
   alone = had.alone;
 }
 
-pub stream_longer : (slot start : Option ℕ) (is_requested : Bool) (number : ℕ) (all events : List SlotEvent)
-    → BeginsWith all events → HadStream slot start is_requested number events
-    → HadStream slot start is_requested number all
-stream_longer (Some slot) (Some start) is_requested number all events begins had =
-    had_longer all events (hold (acquisition slot start is_requested) number) begins had
-stream_longer None None is_requested number all events begins had = had
-stream_longer (Some slot) None is_requested number all events begins had = absurd had
-stream_longer None (Some start) is_requested number all events begins had = absurd had
+pub stream_longer : (slot start : Option ℕ) (is_requested : Bool) (number commits : ℕ) (all events : List SlotEvent)
+    → BeginsWith all events → HadStream slot start is_requested number commits events
+    → HadStream slot start is_requested number commits all
+stream_longer (Some slot) (Some start) is_requested number commits all events begins had =
+    had_longer all events (hold (acquisition slot start is_requested) number) commits begins had
+stream_longer None None is_requested number commits all events begins had = had
+stream_longer (Some slot) None is_requested number commits all events begins had = absurd had
+stream_longer None (Some start) is_requested number commits all events begins had = absurd had

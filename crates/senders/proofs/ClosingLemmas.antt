@@ -13,9 +13,11 @@ use Rattle.table_changes.specs.Tables.{no_rows}
 use Rattle.tables_log.specs.BookView.{book_checked, book_limit, book_log, book_setting, book_slots}
 use Rattle.tables_log.specs.Commits.{CommitOf}
 use Rattle.tables_log.specs.Committing.{ChangesSlots, IsKept}
+use Rattle.tables_log.specs.Slots.{AreInUse, KeepsUse, confirmed_up_to}
 use Rattle.tables_log.specs.StandsFor.{StandsFor, AreAccepted, entries_from}
 use Rattle.tables_log.specs.declared.book.Book.{Book}
 use Rattle.tables_log.specs.declared.slots.Slot.{Slot}
+use Rattle.tables_log.proofs.SlotUses.{confirmed_uses}
 use Rattle.tables_log.proofs.StandLemmas.{slots_keep_it}
 use Rattle.publisher_desk.specs.Counting.{total_receipts, IsCounted}
 use Rattle.publisher_desk.specs.Held.{IsBookOf}
@@ -28,6 +30,8 @@ use Rattle.senders.specs.CloseCauses.{IsMissing, IsRepeated, IsNotLogged, IsExpl
 use Rattle.senders.specs.Closing.{IsClosed}
 use Rattle.publisher_desk.specs.Logged.{RiseTo}
 use Rattle.publisher_desk.specs.Sights.{StartsWith}
+use Rattle.publisher_desk.specs.SlotEvents.{acquisitions, no_use}
+use Rattle.publisher_desk.specs.SlotSights.{BeginsWith}
 use Rattle.senders.specs.Gathering.{receipts_in, all_receipts, all_readings, numbers_of, IsRisingSeat}
 use Rattle.senders.specs.Histories.{AreInOrder, AreWitnessed, IsRight}
 use Rattle.senders.specs.Replays.{Replays, IsAsLong, IsUnlikeIn}
@@ -53,6 +57,15 @@ slots_then first old new slots before after = record {
   log = after.log ∙ before.log;
   slots_are = refl;
 }
+
+pub uses_after : {E : Type 0} (first : List Slot) (old new : Book) (number position : ℕ) (result : Result (Unit {0}) E)
+    → KeepsUse first (book_slots old)
+    → OnOk result (ChangesSlots old new (confirmed_up_to (book_slots old) number position))
+    → OnErr result (IsKept old new) → KeepsUse first (book_slots new)
+uses_after first old new number position (Ok done) before ok err used are =
+    subst (AreInUse used) (sym ok.slots_are) (confirmed_uses (book_slots old) number position used (before used are))
+uses_after first old new number position (Err error) before ok err used are =
+    subst (AreInUse used) (sym err.slots_are) (before used are)
 
 pub slots_after : {E : Type 0} (first old new : Book) (slots : List Slot) (result : Result (Unit {0}) E)
     → ChangesSlots first old (book_slots old)
@@ -208,6 +221,7 @@ module _ (book fresh : Book) (seats : List SeatOf) (order : List ReceiptOf) (ord
             are = refl;
             stands = all.0;
             counted = count;
+            free = replayed.free;
             right = right;
             forward = forward;
             timed = timed;
@@ -313,9 +327,9 @@ module _ (book fresh : Book) (seats : List SeatOf) (receipts seen : List (Bor Re
 -- ---- the closed book
 
 pub still_closed : (checked : CheckedOf) (limit : ℕ) (seats : List SeatOf) (served : List ServedOf)
-    (old new : Book) → ChangesSlots old new (book_slots new) → IsClosed checked limit seats served old
-    → IsClosed checked limit seats served new
-still_closed checked limit seats served old new changes closed = record {
+    (old new : Book) → ChangesSlots old new (book_slots new) → KeepsUse (book_slots old) (book_slots new)
+    → IsClosed checked limit seats served old → IsClosed checked limit seats served new
+still_closed checked limit seats served old new changes keeps closed = record {
   named = changes.checked ∙ closed.named;
   limited = changes.limit ∙ closed.limited;
   order = closed.order;
@@ -325,6 +339,7 @@ still_closed checked limit seats served old new changes closed = record {
   are = closed.are;
   stands = slots_keep_it old new (book_slots new) changes closed.transactions closed.stands;
   counted = ap length changes.log ∙ closed.counted;
+  free = keeps no_use closed.free;
   right = closed.right;
   forward = closed.forward;
   timed = closed.timed;
@@ -341,9 +356,9 @@ still_closed checked limit seats served old new changes closed = record {
 pub closed_as_named : (checked : CheckedOf) (limit : ℕ) (book fresh new : Book) (seats seen : List SeatOf)
     (served told : List ServedOf) → IsBookOf checked limit book → seen ≡ seats → told ≡ served
     → IsClosed (book_checked book) (book_limit book) seen told fresh → ChangesSlots fresh new (book_slots new)
-    → IsClosed checked limit seats served new
-closed_as_named checked limit book fresh new seats seen served told is same alike closed changes =
-    still_closed checked limit seats served fresh new changes
+    → KeepsUse (book_slots fresh) (book_slots new) → IsClosed checked limit seats served new
+closed_as_named checked limit book fresh new seats seen served told is same alike closed changes keeps =
+    still_closed checked limit seats served fresh new changes keeps
     (subst (λ (list : List SeatOf). IsClosed checked limit list served fresh) same
     (subst (λ (list : List ServedOf). IsClosed checked limit seen list fresh) alike
     (subst (λ (n : ℕ). IsClosed checked n seen told fresh) is.limited
@@ -379,22 +394,29 @@ held_back book acquired all left seats served f.OutOfMemory counted cause = tt
 
 module _ (checked : CheckedOf) (limit all left : ℕ) (book : Book) (acquired : ℕ) (seats : List SeatOf)
     (served : List ServedOf) (is : IsBookOf checked limit book)
-    (counted : IsCounted all left seats (length (book_log book))) where
-  pub refused_as_named : (seen : List SeatOf) (told : List ServedOf) (error : CloseError) → seen ≡ seats
-      → told ≡ served → IsCloseCause book acquired seen told error
+    (counted : IsCounted all left seats (length (book_log book)))
+    (told : AreWitnessed checked acquired seats served book) where
+  -- the cause by so many acquisitions is that by the events
+  by_events : (error : CloseError) → IsCloseCause book acquired seats served error → IsHeldBack all left seats error
       → RefusedClose checked limit all left seats served error
-  refused_as_named seen told error same alike cause =
+  by_events error cause held = record {
+    book = book;
+    events = told.closing.events;
+    known = λ place other below. (told.seen place other below).slots;
+    is = is;
+    counted = counted;
+    cause = subst (λ (n : ℕ). IsCloseCause book n seats served error) told.count cause;
+    held_back = held;
+  }
+
+  pub refused_as_named : (seen : List SeatOf) (shown : List ServedOf) (error : CloseError) → seen ≡ seats
+      → shown ≡ served → IsCloseCause book acquired seen shown error
+      → RefusedClose checked limit all left seats served error
+  refused_as_named seen shown error same alike cause =
       let why : IsCloseCause book acquired seats served error =
       subst (λ (list : List SeatOf). IsCloseCause book acquired list served error) same
       (subst (λ (list : List ServedOf). IsCloseCause book acquired seen list error) alike cause) in
-      record {
-        book = book;
-        acquired = acquired;
-        is = is;
-        counted = counted;
-        cause = why;
-        held_back = held_back book acquired all left seats served error counted why;
-      }
+      by_events error why (held_back book acquired all left seats served error counted why)
 
   pub memory_refused : {A : Type 0} (result : Result A CloseError)
       → IsErrAnd result (λ error. error ≡ f.OutOfMemory)
@@ -402,4 +424,4 @@ module _ (checked : CheckedOf) (limit all left : ℕ) (book : Book) (acquired : 
   memory_refused (Ok done) memory = tt
   memory_refused (Err error) memory =
       subst (λ (other : CloseError). RefusedClose checked limit all left seats served other) (sym memory)
-      (record { book = book; acquired = acquired; is = is; counted = counted; cause = tt; held_back = tt })
+      (by_events f.OutOfMemory tt tt)

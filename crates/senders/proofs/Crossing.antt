@@ -24,7 +24,13 @@ ear_field_send = struct_send (shape E.the_type) (DF.the_send, (search sendable d
 
 listener_field_send : IsSend L.the_field.row
 listener_field_send =
-    struct_send (shape L.the_type) (ear_field_send, (search (sendable, crosses) depth 40, (search sendable, (search sendable, (search sendable, tt)))))
+    struct_send (shape L.the_type) (
+      ear_field_send,
+      (
+        search (sendable, crosses) depth 40,
+        (search sendable, (search sendable, (search sendable, (search sendable depth 40, tt)))),
+      ),
+    )
 
 pub listener_send : IsSend L.the_row
 listener_send = recorded_send L.the_field.row _ _ L.the_type.to_one listener_field_send

@@ -1,39 +1,34 @@
 -- What a listener has heard, piece by piece.
-use Rattle.std.proofs.Common.{◌≡◌, ◌≤◌, ℕ, min, List, [], ◌++◌, length, refl, sym, ◌∙◌, ap, subst, append_assoc, append-nil, arith, take_all}
+use Rattle.std.proofs.Common.{◌≡◌, ◌<◌, ◌≤◌, ℕ, min, List, [], ◌++◌, length, refl, sym, ◌∙◌, ap, subst, append_assoc, append-nil, arith, take_all}
 use Rattle.std.specs.Prelude.{Bool, true, false, Option, Some, None, Result, Ok, Err, IfErr, slice_get}
 use Rattle.std.proofs.Math.Nat.{le-max_left}
 use Rattle.std.proofs.KnownBytes.{Consumes-nil, Consumes-trans}
 use Rattle.shard_checker.specs.CheckedView.{CheckedOf, setting_in}
 use Rattle.table_changes.specs.Tables.{no_rows}
-use Rattle.tables_log.specs.BookView.{book_log}
+use Rattle.tables_log.specs.BookView.{book_log, book_slots}
+use Rattle.tables_log.specs.Slots.{confirmed_at}
 use Rattle.tables_log.specs.Lsn.{end_lsn_of}
 use Rattle.tables_log.specs.StandsFor.{AreAccepted}
 use Rattle.tables_log.specs.declared.book.Book.{Book}
 use Rattle.tables_log.proofs.StandLemmas.{each_is_logged}
-use Rattle.copy_frames.specs.Frames.{fault_in}
-use Rattle.copy_frames.specs.Inboxes.{Inbox}
-use Rattle.copy_frames.specs.declared.fault.FrameFault.{FrameFault}
-use Rattle.copy_frames.specs.declared.frame.Frame.{Frame}
 use Rattle.copy_both.specs.Ears.{HearLeaves, ear_refusal, ear_started}
-use Rattle.copy_both.specs.HeardFrames.{AsksIfStarted, BooksOf, GoesOnOrEnds, HasLinkFault, HasHeard, Explains, IsAnswered, IsBookFor, frames_in, reach_of, sent_then, IsStartedBy}
+use Rattle.copy_both.specs.HeardFrames as heard_frames
+use Rattle.copy_both.specs.HeardFrames.{AsksIfStarted, BooksOf, GoesOnOrEnds, HasLinkFault, HasHeard, HasStatus, ConfirmsAs, Explains, IsAnswered, IsBookFor, frames_in, reach_of, sent_then, IsStartedBy}
 use Rattle.copy_both.specs.declared.ear.Ear.{Ear}
 use Rattle.copy_both.specs.declared.heard.Heard.{Heard}
 use Rattle.copy_both.specs.declared.link_fault.LinkFault.{LinkFault}
 use Rattle.copy_both.specs.declared.link_fault.LinkFault.TheVariants as fault
-use Rattle.copy_both.specs.declared.phase.Phase.{Phase}
-use Rattle.copy_both.specs.declared.phase.Phase.TheVariants as phase
-use Rattle.copy_both.specs.declared.session.Session.{Session}
 use Rattle.copy_both.proofs.PiecesHeard.{asks_stay, late_starts_are_requested, pieces_are_heard, requests_stay}
-use Rattle.copy_both.specs.Hearing.{HearingOf, ServedFrom, first_sent, frames_heard, is_over, link_fault, then_fault, unless_over, with_fault}
-use Rattle.copy_both.specs.Listening.{Leaves, PieceLeaves, fed, held_frames, piece_heard, silence}
-use Rattle.copy_both.specs.Sessions.{hearing_view, served_by}
+use Rattle.copy_both.proofs.StatusesHeard.{statuses_confirm, statuses_stay}
+use Rattle.copy_both.specs.Hearing.{first_sent}
 use Rattle.publisher_desk.specs.Receipts.{transactions_of}
 use Rattle.publisher_desk.specs.SlotEvents.{use_after}
 use Rattle.publisher_desk.specs.Viewers.{IsUsed, SeesMore, ViewerOf}
 use Rattle.publisher_desk.specs.declared.connection_state.ConnectionState.{ConnectionState}
 use Rattle.publisher_desk.specs.declared.slot_event.Acquisition.{Acquisition}
 use Rattle.senders.specs.Hearing.{HearsPiece, IsExplained, IsSentFrom, StaysStarted, sent_after, sent_by}
-use Rattle.senders.specs.Listening.{AcquiresFor, EndsFor, EndsOf, HasListened, HeardPiece, HoldsStream, HearsLast, HearsMore, HearsNext, SaysOfPiece, SaysRequested, next_by, next_by_end, piece_of}
+use Rattle.senders.specs.Listening as listening
+use Rattle.senders.specs.Listening.{AcquiresFor, ConfirmsNow, EndsFor, EndsOf, HasListened, HeardPiece, HoldsStream, HearsLast, HearsMore, HearsNext, SaysConfirmed, SaysOfPiece, SaysRequested, next_by, next_by_end, piece_of}
 use Rattle.senders.specs.Results.{books_seen}
 use Rattle.senders.specs.declared.failed.Failed.{Failed}
 use Rattle.senders.specs.declared.listener.Listened.{Listened}
@@ -45,64 +40,6 @@ use Rattle.senders.specs.declared.listener.Listener.{Listener}
 use Rattle.senders.specs.declared.next.Next.{Next}
 use Rattle.senders.specs.declared.next.Next.TheVariants as next
 use Rattle.senders.proofs.HoldingLemmas.{holding_after, use_among}
-
--- ---- a piece, all of whose frames were heard before memory was refused
-
-unless_ended : (old new : Session) (before after : Book) (h : HearingOf) (over : Bool) (fault : LinkFault)
-    → Leaves old new before after (unless_over over h (with_fault fault h)) → Leaves old new before after h
-unless_ended old new before after h true fault left = left
-unless_ended old new before after h false fault left =
-    record { checked = left.checked; started = left.started; response = left.response; book = left.book }
-
-without_fault : (old new : Session) (before after : Book) (h : HearingOf) (fault : Option FrameFault)
-    → Leaves old new before after (then_fault fault h) → Leaves old new before after h
-without_fault old new before after h None left = left
-without_fault old new before after h (Some fault) left =
-    unless_ended old new before after h (is_over h) (link_fault fault) left
-
-all_frames : (inbox : Inbox) (piece : List ℕ) (sent : ℕ) (old new : Session) (before after : Book)
-    → Leaves old new before after (piece_heard old before inbox piece sent)
-    → PieceLeaves (Err fault.OutOfMemory) inbox piece sent old new before after
-all_frames inbox piece sent old new before after left =
-    let frames : List Frame = held_frames (fed inbox piece) in
-    let served : ServedFrom = served_by old before in
-    let start : HearingOf = hearing_view old (silence sent) before in (
-      length frames,
-      subst (λ (all : List Frame). Leaves old new before after (frames_heard served start all))
-          (sym (take_all (length frames) frames (omega arith)))
-          (without_fault old new before after (frames_heard served start frames)
-          (fault_in inbox.limit (inbox.bytes ++ piece)) left),
-    )
-
-memory_part : (f : LinkFault) (inbox : Inbox) (piece : List ℕ) (sent : ℕ) (old new : Session)
-    (before after : Book)
-    → PieceLeaves (Err f) inbox piece sent old new before after
-    → PieceLeaves (Err fault.OutOfMemory) inbox piece sent old new before after
-memory_part fault.OutOfMemory inbox piece sent old new before after left = left
-memory_part fault.FrameTooLong inbox piece sent old new before after left =
-    all_frames inbox piece sent old new before after left
-memory_part fault.BadLength inbox piece sent old new before after left =
-    all_frames inbox piece sent old new before after left
-memory_part (fault.Unexpected byte) inbox piece sent old new before after left =
-    all_frames inbox piece sent old new before after left
-memory_part (fault.BadStart state) inbox piece sent old new before after left =
-    all_frames inbox piece sent old new before after left
-memory_part fault.StatusAhead inbox piece sent old new before after left =
-    all_frames inbox piece sent old new before after left
-memory_part fault.Closed inbox piece sent old new before after left =
-    all_frames inbox piece sent old new before after left
-
--- what is left of a piece by a fault, a refusal of memory may leave
-pub memory_leaves : (now : Phase) (old new : Ear) (before after : Book) (piece : List ℕ) (sent : ℕ)
-    (f : LinkFault) → HearLeaves now old new before after piece sent (Err f)
-    → HearLeaves now old new before after piece sent (Err fault.OutOfMemory)
-memory_leaves phase.Open old new before after piece sent f left = record {
-  leaves = memory_part f old.frames piece sent old.session new.session before after left.leaves;
-  phase_is = left.phase_is;
-  holds = left.holds;
-}
-memory_leaves phase.Closed old new before after piece sent f left = left
-memory_leaves phase.Lost old new before after piece sent f left = left
 
 -- ---- a piece, under the lock
 
@@ -203,6 +140,31 @@ module _ (checked : CheckedOf) (was now : ViewerOf) (more : AreMore (books_seen 
       → SaysRequested (bytes ++ piece_of before) after
   says_requested bytes has = says_of_piece bytes has (ear_started before.ear) refl
 
+  -- a position that was noted with this piece is that of a status in it
+  by_status : (bytes : List ℕ) (slot : ℕ) → after.confirmed ≡ confirmed_at (book_slots new) slot
+      → confirmed_at (book_slots old) slot < after.confirmed
+      → ConfirmsAs (frames_in (bytes ++ piece_of before)) (ear_started after.ear) (book_slots old) (book_slots new) slot
+      → HasStatus (frames_in (bytes ++ piece_of before)) after.confirmed
+  by_status bytes slot at further (heard_frames.Stays same) = absurd (omega (arith, at, further, same))
+  by_status bytes slot at further (heard_frames.Confirms start started has) =
+      subst (HasStatus (frames_in (bytes ++ piece_of before))) (sym at) has
+
+  says_now : (bytes : List ℕ) → HasListened checked was bytes before
+      → ConfirmsNow (ear_started after.ear) old new before.confirmed after.confirmed
+      → SaysConfirmed (bytes ++ piece_of before) after
+  says_now bytes has (listening.Stays same) some =
+      subst (HasStatus (frames_in (bytes ++ piece_of before))) (sym same)
+      (statuses_stay checked (books_seen was) bytes (piece_of before) before.ear before.confirmed has.heard
+      (has.confirmed (subst (λ (n : ℕ). 0 < n) same some)))
+  says_now bytes has (listening.Moves slot start started at further) some =
+      by_status bytes slot at further
+      (statuses_confirm checked known bytes (piece_of before) before.ear after.ear old new sent heard
+      (has_now bytes has.heard) is did.left slot)
+
+  pub confirms_of : (bytes : List ℕ) → HasListened checked was bytes before
+      → SaysConfirmed (bytes ++ piece_of before) after
+  confirms_of bytes has = says_now bytes has did.confirms
+
 -- ---- a use of the slots by a listener
 
 -- what a listener does with the book that it is lent
@@ -231,6 +193,8 @@ module _ (checked : CheckedOf) (was now : ViewerOf) (sees : SeesMore was now) (b
   pub says_used : SaysOfPiece checked was now (piece_of before) before after
   says_used = record {
     each = λ bytes has. says_requested checked was now (books_more was now sees) before after used.lent.old
+        used.lent.new used.lent.connections listened.heard book_was used.lent.does.0 bytes has;
+    confirms = λ bytes has. confirms_of checked was now (books_more was now sees) before after used.lent.old
         used.lent.new used.lent.connections listened.heard book_was used.lent.does.0 bytes has;
     holding = λ bytes has. holding_after before after was.held now.held used.number used.acquired
         (heard_used.each bytes has.heard).stays used.lent.does.0.compares.stays used.lent.does.1 used.held_is
@@ -270,6 +234,9 @@ module _ (checked : CheckedOf) (was now : ViewerOf) (same : now ≡ was) (before
           each = λ bytes has slot start started says.
               requests_stay checked (books_seen was) bytes (piece_of before) before.ear slot start has.heard
               (has.requested slot start started says);
+          confirms = λ bytes has some.
+              statuses_stay checked (books_seen was) bytes (piece_of before) before.ear before.confirmed has.heard
+              (has.confirmed some);
           holding = λ bytes has. has.holding;
           sees = sees_same was;
         }))
@@ -287,12 +254,13 @@ has_asked checked known bytes ear has = asks_on checked known bytes (ear_started
 
 -- with the same ear, and said of it the same
 same_listened : (checked : CheckedOf) (viewer : ViewerOf) (bytes : List ℕ) (old new : Listener) → new.ear ≡ old.ear
-    → new.is_requested ≡ old.is_requested → new.number ≡ old.number → HasListened checked viewer bytes old
-    → HasListened checked viewer bytes new
-same_listened checked viewer bytes old new same said number has = record {
+    → new.is_requested ≡ old.is_requested → new.number ≡ old.number → new.confirmed ≡ old.confirmed
+    → HasListened checked viewer bytes old → HasListened checked viewer bytes new
+same_listened checked viewer bytes old new same said number confirmed has = record {
   heard = subst (HasHeard checked (books_seen viewer) bytes) (sym same) has.heard;
   requested = λ slot start started says.
       has.requested slot start (sym (ap ear_started same) ∙ started) (sym said ∙ says);
+  confirmed = subst (λ (n : ℕ). 0 < n → HasStatus (frames_in bytes) n) (sym confirmed) has.confirmed;
   holding = subst (λ (ear : Ear). HoldsStream (ear_started ear) new.is_requested new.number viewer.held) (sym same)
       (subst (λ (b : Bool). HoldsStream (ear_started old.ear) b new.number viewer.held) (sym said)
       (subst (λ (n : ℕ). HoldsStream (ear_started old.ear) old.is_requested n viewer.held) (sym number) has.holding));
@@ -307,7 +275,7 @@ module _ (checked : CheckedOf) (was now : ViewerOf) (left now_left : Option (Lis
     (room : length new.piece.items ≡ length middle.piece.items)
     (says : SaysOfPiece checked was now (piece_of middle) middle new) where
   has_pulled : (bytes : List ℕ) → HasListened checked was bytes old → HasListened checked was bytes middle
-  has_pulled bytes has = same_listened checked was bytes old middle pulls.ear pulls.same pulls.number has
+  has_pulled bytes has = same_listened checked was bytes old middle pulls.ear pulls.same pulls.number pulls.confirmed has
 
   by_end : (was_over : Bool) (heard : Heard)
       → HearsPiece checked was now (piece_of middle) middle.ear new.ear (Ok heard)
@@ -324,6 +292,7 @@ module _ (checked : CheckedOf) (was now : ViewerOf) (left now_left : Option (Lis
           has = record {
             heard = subst (GoesOnOrEnds checked (books_seen now) (bytes ++ piece_of middle) new.ear) none one.explained;
             requested = says.each bytes listened;
+            confirmed = says.confirms bytes listened;
             holding = says.holding bytes listened;
           };
           stays = stays_from old.ear middle.ear new.ear pulls.ear one.stays;
@@ -342,6 +311,7 @@ module _ (checked : CheckedOf) (was now : ViewerOf) (left now_left : Option (Lis
           ends = subst (GoesOnOrEnds checked (books_seen now) (bytes ++ piece_of middle) new.ear) some one.explained;
           stays = stays_from old.ear middle.ear new.ear pulls.ear one.stays;
           requested = says.each bytes listened;
+          confirmed = says.confirms bytes listened;
           holding = says.holding bytes listened;
         };
   }
@@ -362,6 +332,7 @@ module _ (checked : CheckedOf) (was now : ViewerOf) (left now_left : Option (Lis
           ends = one.explained;
           stays = stays_from old.ear middle.ear new.ear pulls.ear one.stays;
           requested = says.each bytes listened;
+          confirmed = says.confirms bytes listened;
           holding = says.holding bytes listened;
         };
   }
@@ -379,6 +350,11 @@ says_still : (checked : CheckedOf) (viewer : ViewerOf) (bytes : List ℕ) (new :
 says_still checked viewer bytes new has =
     subst (λ (all : List ℕ). SaysRequested all new) (sym (append-nil bytes)) has.requested
 
+confirmed_still : (checked : CheckedOf) (viewer : ViewerOf) (bytes : List ℕ) (new : Listener)
+    → HasListened checked viewer bytes new → SaysConfirmed (bytes ++ []) new
+confirmed_still checked viewer bytes new has =
+    subst (λ (all : List ℕ). SaysConfirmed all new) (sym (append-nil bytes)) has.confirmed
+
 stays_same : (old new : Ear) → new ≡ old → StaysStarted old new
 stays_same old new same started is = ap ear_started same ∙ is
 
@@ -393,12 +369,13 @@ module _ (checked : CheckedOf) (viewer : ViewerOf) (left now_left : Option (List
     read = pulls.read;
     sees = sees_same viewer;
     ends = λ bytes has.
-        let listened = same_listened checked viewer bytes old new pulls.ear pulls.same pulls.number has in
+        let listened = same_listened checked viewer bytes old new pulls.ear pulls.same pulls.number pulls.confirmed has in
         record {
           asks = asks_still_for checked viewer bytes new listened;
           ends = ends (bytes ++ []);
           stays = stays_same old.ear new.ear pulls.ear;
           requested = says_still checked viewer bytes new listened;
+          confirmed = confirmed_still checked viewer bytes new listened;
           holding = listened.holding;
         };
   }
@@ -462,6 +439,7 @@ module _ (checked : CheckedOf) (was between now : ViewerOf) (left middle_left la
           ends = two.ends;
           stays = λ started is. two.stays started (one.stays started is);
           requested = two.requested;
+          confirmed = two.confirmed;
           holding = two.holding;
         });
   }

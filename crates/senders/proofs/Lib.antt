@@ -8,6 +8,7 @@ pub mod GatheringLemmas
 pub mod HearingLemmas
 pub mod HoldingLemmas
 pub mod LoggedLemmas
+pub mod MemoryLemmas
 pub mod NumberLemmas
 pub mod ReachLemmas
 pub mod RefusedLemmas

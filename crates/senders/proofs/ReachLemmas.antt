@@ -7,9 +7,9 @@ use Rattle.std.proofs.lemmas.List.FromFn.{length-range_with_len}
 use Rattle.std.specs.List.{range_with_len}
 use Rattle.std.specs.Prelude.{All, Contains, Some, slice_get}
 use Rattle.filter_tree.proofs.Tests.{by_test}
-use Rattle.senders.specs.Reached.{Accounts, Takes, Requests, IsAccounted, IsReached, numbers_in}
+use Rattle.senders.specs.Reached.{Accounts, Confirms, Requests, IsAccounted, IsReached, numbers_in}
 use Rattle.senders.specs.Results.{ServedOf, taken_from}
-use Rattle.senders.specs.TakenCommits.{taken_to}
+use Rattle.senders.specs.TakenCommits.{confirmed_to}
 use Rattle.senders.proofs.ReplayLemmas.{get_here, take_one_more}
 
 -- ---- numbers
@@ -67,21 +67,21 @@ placed (first ∷ order) (other ∷ earlier) later last one same =
     subst (λ (it : ServedOf). IsPlaced (first ∷ order) (it ∷ earlier) last one) is
     (placed_after first order earlier last one (placed order earlier later last one rest))
 
--- if it is of the slot, it took no commit after these
-abbrev pub TakesTo : ℕ → ℕ → ServedOf → Type 0
-TakesTo slot reach one = one.slot ≡ Some slot → taken_to one ≤ reach
+-- if it is of the slot, it accounts for no commit after these
+abbrev pub ReachesTo : ℕ → ℕ → ServedOf → Type 0
+ReachesTo slot reach one = one.slot ≡ Some slot → max (taken_from one) (confirmed_to one) ≤ reach
 
--- Of these connections, in their order: the first commits, this number of them, are accounted for, no later one was
--- taken, and the starts are reached.
+-- Of these connections, in their order: the first commits, this number of them, are accounted for, and no later one is;
+-- and the starts are reached.
 pub record AreReachedTo (slot reach : ℕ) (order : List ServedOf) : Type 0 where
   pub accounted : (count : ℕ) → count < reach → IsAccounted order slot count
-  pub passed : All (TakesTo slot reach) order
+  pub passed : All (ReachesTo slot reach) order
   pub so_far : IsReached order slot
 
 pub none_reached : (slot : ℕ) → AreReachedTo slot 0 []
 none_reached slot = record {
   accounted = λ count below. absurd (omega (arith, below));
-  passed = All-nil (TakesTo slot 0);
+  passed = All-nil (ReachesTo slot 0);
   so_far = λ earlier one later same of count below.
       absurd (omega (arith, ap length same, length-append earlier (one ∷ later)));
 }
@@ -113,7 +113,7 @@ module _ (slot reach : ℕ) (order : List ServedOf) (one : ServedOf) (before : A
   unfolding still starts_more
   of_another other = record {
     accounted = λ count below. still count (before.accounted count below);
-    passed = All-push (TakesTo slot reach) order one before.passed (λ its. absurd (other its));
+    passed = All-push (ReachesTo slot reach) order one before.passed (λ its. absurd (other its));
     so_far = starts_more (λ its. absurd (other its));
   }
 
@@ -126,10 +126,10 @@ module _ (slot reach : ℕ) (order : List ServedOf) (one : ServedOf) (before : A
           (λ more. let least = ltb-false count reach more in
           of_it count (Requests of (in_time (omega (arith, least, below))) below))
 
-      pub of_this : AreReachedTo slot (max reach (taken_to one)) (order ++ one ∷ [])
+      pub of_this : AreReachedTo slot (max (max reach (taken_from one)) (confirmed_to one)) (order ++ one ∷ [])
       unfolding still of_it starts_more before_start
       of_this =
-          let next : ℕ = max reach (taken_to one) in
+          let next : ℕ = max (max reach (taken_from one)) (confirmed_to one) in
           record {
             accounted = λ count below. by_test (ltb count (taken_from one))
                 (λ less. before_start count (ltb-true count (taken_from one) less))
@@ -137,9 +137,9 @@ module _ (slot reach : ℕ) (order : List ServedOf) (one : ServedOf) (before : A
                 by_test (ltb count reach)
                 (λ less. still count (before.accounted count (ltb-true count reach less)))
                 (λ late. let most = ltb-false count reach late in
-                of_it count (Takes of least (omega (arith, most, below)))));
-            passed = All-push (TakesTo slot next) order one
-                (All-weaker (TakesTo slot reach) (TakesTo slot next)
+                of_it count (Confirms of least (omega (arith, most, least, below)))));
+            passed = All-push (ReachesTo slot next) order one
+                (All-weaker (ReachesTo slot reach) (ReachesTo slot next)
                 (λ other low its. let upto = low its in omega (arith, upto)) order before.passed)
                 (λ its. omega arith);
             so_far = starts_more (λ its. before_start);
@@ -148,14 +148,14 @@ module _ (slot reach : ℕ) (order : List ServedOf) (one : ServedOf) (before : A
     -- it starts after the reach, so that the next commit is not accounted for
     module _ (late : reach < taken_from one) (not_requested : one.is_requested ≡ false) where
       not_by_it : Accounts slot reach one → ⊥
-      not_by_it (Takes its low high) = absurd (omega (arith, low, late))
+      not_by_it (Confirms its low high) = absurd (omega (arith, low, late))
       not_by_it (Requests its requested below) = absurd cc
 
       not_before : (other : ServedOf) → Contains order other → Accounts slot reach other → ⊥
-      not_before other among (Takes its low high) =
-          let upto = All-contains (TakesTo slot reach) order other before.passed among its in omega (arith, upto, high)
+      not_before other among (Confirms its low high) =
+          let upto = All-contains (ReachesTo slot reach) order other before.passed among its in omega (arith, upto, high)
       not_before other among (Requests its requested below) =
-          let upto = All-contains (TakesTo slot reach) order other before.passed among its in omega (arith, upto, below)
+          let upto = All-contains (ReachesTo slot reach) order other before.passed among its in omega (arith, upto, below)
 
       pub not_reached : (all later : List ServedOf) → all ≡ order ++ one ∷ later → ¬ IsReached all slot
       unfolding not_by_it not_before

@@ -1,12 +1,12 @@
 -- What came of a connection on which no stream was started.
-use Rattle.std.proofs.Common.{◌≡◌, ℕ, List, [], map, refl, sym, ◌∙◌, ap, subst}
+use Rattle.std.proofs.Common.{◌<◌, arith, ◌≡◌, ℕ, List, [], map, refl, sym, ◌∙◌, ap, subst}
 use Rattle.std.specs.Prelude.{Bool, false, Option, None}
 use Rattle.std.specs.Arc.{arc_value}
 use Rattle.std.specs.Io.KnownBytes.{Appends}
 use Rattle.std.proofs.KnownBytes.{Appends-nil, Consumes-nil}
 use Rattle.shard_checker.specs.CheckedView.{CheckedOf}
 use Rattle.copy_both.specs.Ears.{ear_refusal}
-use Rattle.copy_both.specs.HeardFrames.{BooksOf, frames_in}
+use Rattle.copy_both.specs.HeardFrames.{HasStatus, BooksOf, frames_in}
 use Rattle.copy_both.specs.declared.link_fault.LinkFault.{LinkFault}
 use Rattle.copy_both.specs.declared.link_fault.LinkFault.TheVariants as fault
 use Rattle.senders.specs.declared.end.End.{End}
@@ -60,7 +60,8 @@ module _ (checked : CheckedOf) (known : BooksOf) (bytes : List ℕ) (source_fail
   answered (listener_end.Fault f) ends answers = by_fault f ends answers
 
 module _ (checked : CheckedOf) (bytes : List ℕ) (source_failed source_ended : Bool) (before after : Option (List ℕ))
-    (failed : Bool) (outcome : Outcome) (is_requested : Bool) (number : ℕ) (viewer : ViewerOf)
+    (failed : Bool) (outcome : Outcome) (is_requested : Bool) (confirmed number : ℕ) (viewer : ViewerOf)
+    (confirms : 0 < confirmed → HasStatus (frames_in bytes) confirmed)
     (no_slot : outcome.slot ≡ None) (no_start : outcome.start ≡ None) (none : outcome.taken.items ≡ []) where
   abbrev known : BooksOf
   known = books_seen viewer
@@ -68,7 +69,7 @@ module _ (checked : CheckedOf) (bytes : List ℕ) (source_failed source_ended : 
   unstarted : Answered checked known bytes before after failed outcome.end
       → IsEndCause checked known bytes None source_failed source_ended failed outcome.end
       → IsServedFor checked bytes source_failed source_ended before after failed
-      (served_of outcome is_requested number viewer)
+      (served_of outcome is_requested confirmed number viewer)
   unstarted answer cause = record {
     written = answer.written;
     put = answer.put;
@@ -80,6 +81,7 @@ module _ (checked : CheckedOf) (bytes : List ℕ) (source_failed source_ended : 
     cause = subst (λ (o : Option ℕ). IsEndCause checked known bytes (started_of o outcome.start) source_failed
         source_ended failed outcome.end) (sym no_slot) cause;
     requested = λ slot start some begins says. cc;
+    confirmed = confirms;
     left = λ slot some sound client. cc;
   }
 
@@ -87,14 +89,14 @@ module _ (checked : CheckedOf) (bytes : List ℕ) (source_failed source_ended : 
 pub served_refused : (checked : CheckedOf) (was now last : ViewerOf) (left now_left : Option (List ℕ))
     (source_failed source_ended : Bool)
     (before after : Option (List ℕ)) (failed : Bool) (old new : Listener) (outcome : Outcome) (is_requested : Bool)
-    (number : ℕ) (why : ListenerEnd) → SeesMore now last
+    (confirmed number : ℕ) (why : ListenerEnd) → confirmed ≡ new.confirmed → SeesMore now last
     → HasListened checked was [] old → EndsAt checked was now left now_left source_failed source_ended old new None why
     → AnswersAs why before after failed (ear_refusal new.ear)
     → outcome.slot ≡ None → outcome.start ≡ None → outcome.taken.items ≡ [] → outcome.end ≡ cause_by why
     → IsServed checked left now_left source_failed source_ended before after failed
-    (served_of outcome is_requested number last)
+    (served_of outcome is_requested confirmed number last)
 served_refused checked was now last left now_left source_failed source_ended before after failed old new outcome
-    is_requested number why sees fresh at answers no_slot no_start none same =
+    is_requested confirmed number why noted sees fresh at answers no_slot no_start none same =
     let bytes : List ℕ = at.hears.more in
     let known = books_seen last in
     let all = at.hears.ends [] fresh in
@@ -106,7 +108,8 @@ served_refused checked was now last left now_left source_failed source_ended bef
     record {
       bytes = bytes;
       read = at.hears.read;
-      served_for = unstarted checked bytes source_failed source_ended before after failed outcome is_requested number last
+      served_for = unstarted checked bytes source_failed source_ended before after failed outcome is_requested
+          confirmed number last (subst (λ (n : ℕ). 0 < n → HasStatus (frames_in bytes) n) (sym noted) all.confirmed)
           no_slot no_start none
           (subst (Answered checked known bytes before after failed) (sym same)
           (answered checked known bytes source_failed source_ended before after failed (ear_refusal new.ear) why ends
@@ -119,12 +122,12 @@ served_refused checked was now last left now_left source_failed source_ended bef
 pub served_nothing : (checked : CheckedOf) (left : Option (List ℕ)) (source_failed source_ended : Bool)
     (before : Option (List ℕ)) (failed : Bool) (outcome : Outcome)
     → outcome.slot ≡ None → outcome.start ≡ None → outcome.taken.items ≡ [] → outcome.end ≡ end.Link fault.OutOfMemory
-    → IsServed checked left left source_failed source_ended before before failed (served_of outcome false 0 new_viewer)
+    → IsServed checked left left source_failed source_ended before before failed (served_of outcome false 0 0 new_viewer)
 served_nothing checked left source_failed source_ended before failed outcome no_slot no_start none same = record {
   bytes = [];
   read = Consumes-nil left;
-  served_for = unstarted checked [] source_failed source_ended before before failed outcome false 0 new_viewer no_slot
-      no_start none
+  served_for = unstarted checked [] source_failed source_ended before before failed outcome false 0 0 new_viewer
+      (λ some. absurd (omega (arith, some))) no_slot no_start none
       (subst (Answered checked (books_seen new_viewer) [] before before failed) (sym same)
       (record { written = []; put = Appends-nil before; answer = refl }))
       (subst (IsEndCause checked (books_seen new_viewer) [] None source_failed source_ended failed) (sym same) (record {

@@ -1,5 +1,5 @@
 -- What came of a connection: what was read of it, and what was written.
-use Rattle.std.proofs.Common.{◌≡◌, ℕ, List, [], ◌++◌, refl, sym, ◌∙◌, ap, subst, inl, inr, arith}
+use Rattle.std.proofs.Common.{◌≡◌, ◌<◌, ℕ, List, [], ◌++◌, refl, sym, ◌∙◌, ap, subst, inl, inr, arith}
 use Rattle.std.proofs.lemmas.Bool.Decides.{nat_tests}
 use Rattle.std.specs.Prelude.{◌==◌, Bool, true, false, Option, Some, None}
 use Rattle.std.proofs.KnownBytes.{Consumes-trans}
@@ -8,7 +8,7 @@ use Rattle.shard_checker.specs.CheckedView.{CheckedOf}
 use Rattle.copy_both.specs.Ears.{ear_refusal, ear_started}
 use Rattle.copy_frames.specs.Contents.{copy_done}
 use Rattle.copy_frames.specs.declared.frame.Frame.{Frame}
-use Rattle.copy_both.specs.HeardFrames.{AsksFor, AsksIfStarted, BooksOf, HasEnd, Requests, frames_in}
+use Rattle.copy_both.specs.HeardFrames.{AsksFor, AsksIfStarted, BooksOf, HasEnd, HasStatus, Requests, frames_in}
 use Rattle.copy_both.specs.Hearing.{first_sent}
 use Rattle.copy_both.specs.VoiceLaws.{Follow}
 use Rattle.copy_both.specs.declared.link_fault.LinkFault.TheVariants as fault
@@ -63,28 +63,29 @@ heard_cause checked known bytes started response source_failed source_ended sink
 
 -- what the bytes say of it, and of why its listener ended
 record Knows (checked : CheckedOf) (known : BooksOf) (bytes : List ℕ) (slot start : ℕ) (source_failed source_ended : Bool)
-    (why : Option ListenerEnd) (is_requested : Bool) : Type 0 where
+    (why : Option ListenerEnd) (is_requested : Bool) (confirmed : ℕ) : Type 0 where
   asks : AsksFor checked known (frames_in bytes) slot start
   requested : is_requested ≡ true → Requests (frames_in bytes) slot start
+  confirms : 0 < confirmed → HasStatus (frames_in bytes) confirmed
   response : List ℕ
   ends : (ending : ListenerEnd) → why ≡ Some ending
       → EndsFor checked known bytes (Some (slot, start)) response source_failed source_ended ending
 
 is_last : (checked : CheckedOf) (known : BooksOf) (bytes : List ℕ) (slot start : ℕ) (source_failed source_ended : Bool)
-    (why : Option ListenerEnd) (is_requested : Bool) (last : List ℕ)
-    → Knows checked known bytes slot start source_failed source_ended why is_requested → IsSaid why last
+    (why : Option ListenerEnd) (is_requested : Bool) (confirmed : ℕ) (last : List ℕ)
+    → Knows checked known bytes slot start source_failed source_ended why is_requested confirmed → IsSaid why last
     → IsAfterStream (frames_in bytes) last
-is_last checked known bytes slot start source_failed source_ended why is_requested last knows (speaking.Nothing none) =
+is_last checked known bytes slot start source_failed source_ended why is_requested confirmed last knows (speaking.Nothing none) =
     serving.Nothing none
-is_last checked known bytes slot start source_failed source_ended why is_requested last knows (speaking.Done done is) =
+is_last checked known bytes slot start source_failed source_ended why is_requested confirmed last knows (speaking.Done done is) =
     serving.Done done (knows.ends (listener_end.Frame 99) is)
 
 module _ (checked : CheckedOf) (known : BooksOf) (bytes : List ℕ) (slot start : ℕ) (source_failed source_ended : Bool)
     (before after : Option (List ℕ)) (sink_failed : Bool) (why : Option ListenerEnd) (outcome : Outcome)
-    (is_requested : Bool) (number : ℕ) (viewer : ViewerOf) (known_is : known ≡ books_seen viewer)
-    (knows : Knows checked known bytes slot start source_failed source_ended why is_requested) where
+    (is_requested : Bool) (confirmed number : ℕ) (viewer : ViewerOf) (known_is : known ≡ books_seen viewer)
+    (knows : Knows checked known bytes slot start source_failed source_ended why is_requested confirmed) where
   abbrev served : ServedOf
-  served = served_of outcome is_requested number viewer
+  served = served_of outcome is_requested confirmed number viewer
 
   stream_cause : (is : End) → IsEndOf why sink_failed is
       → IsEndCause checked known bytes (Some (slot, start)) source_failed source_ended sink_failed is
@@ -140,7 +141,8 @@ module _ (checked : CheckedOf) (known : BooksOf) (bytes : List ℕ) (slot start 
         takes = streams.takes;
         rest = streams.rest;
         last = streams.last;
-        last_is = is_last checked known bytes slot start source_failed source_ended why is_requested streams.last knows
+        last_is = is_last checked known bytes slot start source_failed source_ended why is_requested confirmed streams.last
+            knows
             streams.said;
         bytes = streams.bytes;
         all = streams.all;
@@ -169,6 +171,7 @@ module _ (checked : CheckedOf) (known : BooksOf) (bytes : List ℕ) (slot start 
             let same_start : start ≡ at = cc in
             subst (λ (s : ℕ). Requests (frames_in bytes) s at) same_slot
             (subst (λ (n : ℕ). Requests (frames_in bytes) slot n) same_start (knows.requested says));
+        confirmed = knows.confirms;
         left = λ other some sound client.
             left_by streams.written served.end client (streams.answered sound client) streams.ends;
       }
@@ -191,11 +194,13 @@ module _ (checked : CheckedOf) (now last : ViewerOf) (sees : SeesMore now last) 
 
   knows_end : (old new : Listener) (why : ListenerEnd)
       → EndsOf checked now bytes old new source_failed source_ended why
-      → ear_started new.ear ≡ Some (slot, start) → (is_requested : Bool) → is_requested ≡ new.is_requested
-      → Knows checked (books_seen last) bytes slot start source_failed source_ended (Some why) is_requested
-  knows_end old new why ends is is_requested said = record {
+      → ear_started new.ear ≡ Some (slot, start) → (is_requested : Bool) (confirmed : ℕ)
+      → is_requested ≡ new.is_requested → confirmed ≡ new.confirmed
+      → Knows checked (books_seen last) bytes slot start source_failed source_ended (Some why) is_requested confirmed
+  knows_end old new why ends is is_requested confirmed said noted = record {
     asks = asks_last (ear_started new.ear) ends.asks is;
     requested = λ says. ends.requested slot start is (sym said ∙ says);
+    confirms = subst (λ (n : ℕ). 0 < n → HasStatus (frames_in bytes) n) (sym noted) ends.confirmed;
     response = ear_refusal new.ear;
     ends = λ ending some.
         let same : why ≡ ending = cc in
@@ -208,11 +213,13 @@ module _ (checked : CheckedOf) (now last : ViewerOf) (sees : SeesMore now last) 
   }
 
   knows_on : (listener : Listener) → HasListened checked now bytes listener
-      → ear_started listener.ear ≡ Some (slot, start) → (is_requested : Bool) → is_requested ≡ listener.is_requested
-      → Knows checked (books_seen last) bytes slot start source_failed source_ended None is_requested
-  knows_on listener has is is_requested said = record {
+      → ear_started listener.ear ≡ Some (slot, start) → (is_requested : Bool) (confirmed : ℕ)
+      → is_requested ≡ listener.is_requested → confirmed ≡ listener.confirmed
+      → Knows checked (books_seen last) bytes slot start source_failed source_ended None is_requested confirmed
+  knows_on listener has is is_requested confirmed said noted = record {
     asks = asks_last (ear_started listener.ear) (has_asked checked (books_seen now) bytes listener.ear has.heard) is;
     requested = λ says. has.requested slot start is (sym said ∙ says);
+    confirms = subst (λ (n : ℕ). 0 < n → HasStatus (frames_in bytes) n) (sym noted) has.confirmed;
     response = [];
     ends = λ ending some. cc;
   }
@@ -222,7 +229,7 @@ module _ (checked : CheckedOf) (now last : ViewerOf) (sees : SeesMore now last) 
 -- what is known at the end of a stream: of its slot and its commits, and what the result will say
 pub record EndsStream (checked : CheckedOf) (now last : ViewerOf) (left now_left : Option (List ℕ))
     (source_failed source_ended : Bool) (before after : Option (List ℕ)) (sink_failed : Bool) (new : Listener)
-    (outcome : Outcome) (is_requested : Bool) (number : ℕ) (sender : ViewerOf) : Type 0 where
+    (outcome : Outcome) (is_requested : Bool) (confirmed number : ℕ) (sender : ViewerOf) : Type 0 where
   pub slot : ℕ
   pub start : ℕ
   pub slot_is : outcome.slot ≡ Some slot
@@ -233,16 +240,16 @@ pub record EndsStream (checked : CheckedOf) (now last : ViewerOf) (left now_left
   pub frames : List Frame
   pub asks : AsksFor checked (books_seen last) frames slot start
   pub served : IsServed checked left now_left source_failed source_ended before after sink_failed
-      (served_of outcome is_requested number last)
+      (served_of outcome is_requested confirmed number last)
 
 module _ (checked : CheckedOf) (was now last : ViewerOf) (sees : SeesMore now last) (left now_left : Option (List ℕ))
     (source_failed source_ended : Bool)
     (before after : Option (List ℕ)) (sink_failed : Bool) (old new : Listener)
-    (fresh : HasListened checked was [] old) (outcome : Outcome) (is_requested : Bool) (number : ℕ)
-    (said : is_requested ≡ new.is_requested) where
+    (fresh : HasListened checked was [] old) (outcome : Outcome) (is_requested : Bool) (confirmed number : ℕ)
+    (said : is_requested ≡ new.is_requested) (noted : confirmed ≡ new.confirmed) where
   abbrev Result : ViewerOf → Type 0
   Result sender = EndsStream checked now last left now_left source_failed source_ended before after sink_failed new outcome
-      is_requested number sender
+      is_requested confirmed number sender
 
   holds_started : (started : ℕ × ℕ) → ear_started new.ear ≡ Some started → IsHolding now new
       → now.held ≡ Some (hold (acquisition started.0 started.1 new.is_requested) new.number)
@@ -252,7 +259,7 @@ module _ (checked : CheckedOf) (was now last : ViewerOf) (sees : SeesMore now la
   ends_stream : (sender : ViewerOf) (bytes : List ℕ) (started : ℕ × ℕ) (why : Option ListenerEnd)
       → Consumes left now_left bytes → ear_started new.ear ≡ Some started → IsHolding now new
       → Knows checked (books_seen last) bytes started.0 started.1 source_failed source_ended why is_requested
-      → Streams checked started.0 started.1 before after sink_failed why outcome
+      confirmed → Streams checked started.0 started.1 before after sink_failed why outcome
       → TakesLogged checked new_viewer sender (commits_of outcome) → Result sender
   ends_stream sender bytes started why read is holding knows streams logged = record {
     slot = started.0;
@@ -268,7 +275,7 @@ module _ (checked : CheckedOf) (was now last : ViewerOf) (sees : SeesMore now la
       bytes = bytes;
       read = read;
       served_for = stream_served checked (books_seen last) bytes started.0 started.1 source_failed source_ended before
-          after sink_failed why outcome is_requested number last refl knows streams;
+          after sink_failed why outcome is_requested confirmed number last refl knows streams;
     };
   }
 
@@ -286,7 +293,7 @@ module _ (checked : CheckedOf) (was now last : ViewerOf) (sees : SeesMore now la
       ends_stream sender bytes started None
       (Consumes-trans left middle_left now_left on.hears.more more.more on.hears.read more.read) is then.has.holding
       (knows_on checked now last sees bytes started.0 started.1 source_failed source_ended new then.has is is_requested
-      said) streams logged
+      confirmed said noted) streams logged
   by_listener sender between middle_left middle started on (Some why) more streams logged =
       let first = on.hears.heard [] fresh in
       let then = more.ends on.hears.more first.has in
@@ -295,7 +302,7 @@ module _ (checked : CheckedOf) (was now last : ViewerOf) (sees : SeesMore now la
       ends_stream sender bytes started (Some why)
       (Consumes-trans left middle_left now_left on.hears.more more.more on.hears.read more.read) is then.holding
       (knows_end checked now last sees bytes started.0 started.1 source_failed source_ended middle new why then is
-      is_requested said) streams logged
+      is_requested confirmed said noted) streams logged
 
   pub at_once : (sender : ViewerOf) (started : ℕ × ℕ) (why : ListenerEnd)
       → EndsAt checked was now left now_left source_failed source_ended old new (Some started) why
@@ -305,4 +312,4 @@ module _ (checked : CheckedOf) (was now last : ViewerOf) (sees : SeesMore now la
       let ends = at.hears.ends [] fresh in
       ends_stream sender at.hears.more started (Some why) at.hears.read at.started_is ends.holding
       (knows_end checked now last sees at.hears.more started.0 started.1 source_failed source_ended old new why ends
-      at.started_is is_requested said) streams logged
+      at.started_is is_requested confirmed said noted) streams logged

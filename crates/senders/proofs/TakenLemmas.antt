@@ -45,5 +45,5 @@ module _ (book : Book) (acquired : ℕ) (seats : List SeatOf) (served : List Ser
       let one : ServedOf = get_or served place other in
       let its : IsWitnessed (book_checked book) one = told.witnessed place other below in
       let seen : IsSeenIn told.closing one.viewer = told.seen place other below in
-      stream_longer one.slot one.start one.is_requested one.number told.closing.events one.viewer.events seen.slots
-      its.had
+      stream_longer one.slot one.start one.is_requested one.number (length one.viewer.seen) told.closing.events
+      one.viewer.events seen.slots its.had

@@ -9,6 +9,7 @@ use Rattle.copy_both.specs.VoiceLaws.{AreAt}
 use Rattle.copy_both.proofs.StartBounds.{start_within}
 use Rattle.publisher_desk.specs.Receipts.{ReceiptOf, transaction_of}
 use Rattle.publisher_desk.specs.Sights.{StartsWith}
+use Rattle.publisher_desk.specs.SlotEvents.{use_after}
 use Rattle.publisher_desk.specs.SlotSights.{hold}
 use Rattle.publisher_desk.specs.Viewers.{HadSlot, Holds, IsAcceptedLog, SeesMore, ViewerOf, log_seen, new_viewer}
 use Rattle.publisher_desk.specs.declared.slot_sight.Hold.{Hold}
@@ -25,33 +26,38 @@ use Rattle.senders.proofs.ServingLemmas.{EndsStream, at_once, by_listener}
 
 -- ---- a connection that started no stream
 
-pub record EndsUnstarted (checked : CheckedOf) (last : ViewerOf) (left now_left : Option (List ℕ))
+pub record EndsUnstarted (checked : CheckedOf) (now last : ViewerOf) (left now_left : Option (List ℕ))
     (source_failed source_ended : Bool) (before after : Option (List ℕ)) (sink_failed : Bool) (new : Listener)
-    (outcome : Outcome) (is_requested : Bool) (number : ℕ) : Type 0 where
+    (outcome : Outcome) (is_requested : Bool) (confirmed number : ℕ) : Type 0 where
   pub no_slot : outcome.slot ≡ None
   pub no_start : outcome.start ≡ None
   pub none : outcome.taken.items ≡ []
+  pub unheld : now.held ≡ None
   pub unnumbered : new.number ≡ 0
   pub served : IsServed checked left now_left source_failed source_ended before after sink_failed
-      (served_of outcome is_requested number last)
+      (served_of outcome is_requested confirmed number last)
 
-witnessed_unstarted : (checked : CheckedOf) (last : ViewerOf) (outcome : Outcome) (is_requested : Bool) (number : ℕ)
-    → IsAcceptedLog checked last.seen → outcome.slot ≡ None → outcome.start ≡ None → outcome.taken.items ≡ []
-    → number ≡ 0 → IsWitnessed checked (served_of outcome is_requested number last)
-witnessed_unstarted checked last outcome is_requested number accepted no_slot no_start none unnumbered = record {
+witnessed_unstarted : (checked : CheckedOf) (last : ViewerOf) (outcome : Outcome) (is_requested : Bool)
+    (confirmed number : ℕ) → IsAcceptedLog checked last.seen → outcome.slot ≡ None → outcome.start ≡ None → outcome.taken.items ≡ []
+    → last.held ≡ None → number ≡ 0 → IsWitnessed checked (served_of outcome is_requested confirmed number last)
+witnessed_unstarted checked last outcome is_requested confirmed number accepted no_slot no_start none unheld unnumbered = record {
   accepted = accepted;
   within = subst (λ (start : Option ℕ). commits_before (unwrap_or start 0) ≤ length last.seen) (sym no_start)
       (omega arith);
   taken = subst (AreAt (log_seen checked last.seen) (commits_before (unwrap_or outcome.start 0)))
       (sym (ap (map (λ commit. arc_value commit)) none)) tt;
-  had = subst (λ (slot : Option ℕ). HadStream slot outcome.start is_requested number last.events) (sym no_slot)
-      (subst (λ (start : Option ℕ). HadStream None start is_requested number last.events) (sym no_start) unnumbered);
+  had = subst (λ (slot : Option ℕ). HadStream slot outcome.start is_requested number (length last.seen) last.events)
+      (sym no_slot)
+      (subst (λ (start : Option ℕ). HadStream None start is_requested number (length last.seen) last.events)
+      (sym no_start) unnumbered);
+  free = λ slot some. absurd (let other : None ≡ Some slot = sym no_slot ∙ some in cc);
+  none = unheld;
 }
 
 pub witnessed_nothing : (checked : CheckedOf) (outcome : Outcome) → outcome.slot ≡ None → outcome.start ≡ None
-    → outcome.taken.items ≡ [] → IsWitnessed checked (served_of outcome false 0 new_viewer)
+    → outcome.taken.items ≡ [] → IsWitnessed checked (served_of outcome false 0 0 new_viewer)
 witnessed_nothing checked outcome no_slot no_start none =
-    witnessed_unstarted checked new_viewer outcome false 0 tt no_slot no_start none refl
+    witnessed_unstarted checked new_viewer outcome false 0 0 tt no_slot no_start none refl refl
 
 -- ---- a connection that started a stream
 
@@ -61,10 +67,10 @@ before_end start count low = omega (arith, low)
 
 module _ (checked : CheckedOf) (now between last sender : ViewerOf) (left now_left : Option (List ℕ))
     (source_failed source_ended : Bool) (before after : Option (List ℕ)) (sink_failed : Bool) (new : Listener)
-    (outcome : Outcome) (is_requested : Bool) (number : ℕ) (said : is_requested ≡ new.is_requested)
+    (outcome : Outcome) (is_requested : Bool) (confirmed number : ℕ) (said : is_requested ≡ new.is_requested)
     (numbered : number ≡ new.number) (held : between.held ≡ now.held)
     (ends : EndsStream checked now last left now_left source_failed source_ended before after sink_failed new outcome
-    is_requested number sender) where
+    is_requested confirmed number sender) where
   within_log : commits_before ends.start ≤ length last.seen
   within_log =
       before_end ends.start (length last.seen)
@@ -72,20 +78,34 @@ module _ (checked : CheckedOf) (now between last sender : ViewerOf) (left now_le
       (length-map last.seen transaction_of)
       (start_within checked (books_seen last) ends.frames ends.slot ends.start ends.asks))
 
-  had_stream : ReleasesIf (Some ends.slot) between last
-      → HadSlot last.events (hold (acquisition ends.slot ends.start is_requested) number)
-  had_stream released =
+  its_hold : (released : ReleasesIf (Some ends.slot) between last)
+      → released.0.mine ≡ hold (acquisition ends.slot ends.start is_requested) number
+  its_hold released =
       let same : Some released.0.mine ≡ Some (hold (acquisition ends.slot ends.start new.is_requested) new.number) =
       sym released.0.was ∙ (held ∙ ends.holding) in
       let mine : released.0.mine ≡ hold (acquisition ends.slot ends.start new.is_requested) new.number = cc in
-      let saying : hold (acquisition ends.slot ends.start new.is_requested) new.number
-      ≡ hold (acquisition ends.slot ends.start is_requested) number =
-      ap (λ (b : Bool). hold (acquisition ends.slot ends.start b) new.number) (sym said)
-      ∙ ap (λ (n : ℕ). hold (acquisition ends.slot ends.start is_requested) n) (sym numbered) in
-      subst (HadSlot last.events) (mine ∙ saying) released.0.had
+      mine ∙ (ap (λ (b : Bool). hold (acquisition ends.slot ends.start b) new.number) (sym said)
+      ∙ ap (λ (n : ℕ). hold (acquisition ends.slot ends.start is_requested) n) (sym numbered))
+
+  had_stream : ReleasesIf (Some ends.slot) between last
+      → HadSlot last.events (hold (acquisition ends.slot ends.start is_requested) number) (length last.seen)
+  had_stream released =
+      subst (λ (mine : Hold). HadSlot last.events mine (length last.seen)) (its_hold released) released.0.had
+
+  its_released : ReleasesIf outcome.slot between last → ReleasesIf (Some ends.slot) between last
+  its_released released = subst (λ (slot : Option ℕ). ReleasesIf slot between last) ends.slot_is released
+
+  freed : ReleasesIf outcome.slot between last → (slot : ℕ) → outcome.slot ≡ Some slot
+      → use_after last.events slot ≡ false
+  freed released slot some =
+      let mine : ReleasesIf (Some ends.slot) between last = its_released released in
+      let same : Some ends.slot ≡ Some slot = sym ends.slot_is ∙ some in
+      let here : mine.0.mine.acquisition.slot ≡ slot =
+      ap (λ (one : Hold). one.acquisition.slot) (its_hold mine) ∙ (let alike : ends.slot ≡ slot = cc in alike) in
+      subst (λ (n : ℕ). use_after last.events n ≡ false) here mine.0.free
 
   witnessed_stream : StartsWith last.seen sender.seen → IsAcceptedLog checked last.seen
-      → ReleasesIf outcome.slot between last → IsWitnessed checked (served_of outcome is_requested number last)
+      → ReleasesIf outcome.slot between last → IsWitnessed checked (served_of outcome is_requested confirmed number last)
   witnessed_stream begins accepted released = record {
     accepted = accepted;
     within = subst (λ (start : Option ℕ). commits_before (unwrap_or start 0) ≤ length last.seen) (sym ends.start_is)
@@ -94,13 +114,20 @@ module _ (checked : CheckedOf) (now between last sender : ViewerOf) (left now_le
         (commits_of outcome)) (sym ends.start_is)
         (at_in_log checked last.seen sender.seen (commits_before ends.start) (commits_of outcome) begins
         (logged_at checked sender.seen (commits_before ends.start) (commits_of outcome) ends.follow ends.logged.logged));
-    had = subst (λ (slot : Option ℕ). HadStream slot outcome.start is_requested number last.events) (sym ends.slot_is)
-        (subst (λ (start : Option ℕ). HadStream (Some ends.slot) start is_requested number last.events)
-        (sym ends.start_is)
-        (had_stream (subst (λ (slot : Option ℕ). ReleasesIf slot between last) ends.slot_is released)));
+    had = subst (λ (slot : Option ℕ). HadStream slot outcome.start is_requested number (length last.seen) last.events)
+        (sym ends.slot_is)
+        (subst (λ (start : Option ℕ). HadStream (Some ends.slot) start is_requested number (length last.seen)
+        last.events) (sym ends.start_is) (had_stream (its_released released)));
+    free = freed released;
+    none = (its_released released).0.none;
   }
 
 -- ---- either
+
+-- a connection without a stream holds what it held
+unheld_then : (slot : Option ℕ) (old new : ViewerOf) → slot ≡ None → ReleasesIf slot old new → new.held ≡ old.held
+unheld_then slot old new none released =
+    ap (λ (viewer : ViewerOf). viewer.held) (subst (λ (it : Option ℕ). ReleasesIf it old new) none released)
 
 pub sees_if : (slot : Option ℕ) (old new : ViewerOf) → ReleasesIf slot old new → SeesMore old new
 sees_if None old new same = subst (SeesMore old) (sym same) (sees_same old)
@@ -118,13 +145,13 @@ starts_on old new other more begins = (
 module _ (checked : CheckedOf) (was now last : ViewerOf) (sees : SeesMore now last) (left now_left : Option (List ℕ))
     (source_failed source_ended : Bool) (before after : Option (List ℕ)) (sink_failed : Bool) (old new : Listener)
     (fresh : HasListened checked was [] old) (sender : ViewerOf) (outcome : Outcome) (is_requested : Bool)
-    (number : ℕ) (said : is_requested ≡ new.is_requested) where
+    (confirmed number : ℕ) (said : is_requested ≡ new.is_requested) (noted : confirmed ≡ new.confirmed) where
   abbrev Ending : Type 0
   Ending =
-      EndsUnstarted checked last left now_left source_failed source_ended before after sink_failed new outcome
-      is_requested number
+      EndsUnstarted checked now last left now_left source_failed source_ended before after sink_failed new outcome
+      is_requested confirmed number
       ⊎ EndsStream checked now last left now_left source_failed source_ended before after sink_failed new outcome
-      is_requested number sender
+      is_requested confirmed number sender
 
   ending : ServesOut checked was now left now_left source_failed source_ended before after sink_failed old new sender
       outcome → Ending
@@ -134,21 +161,23 @@ module _ (checked : CheckedOf) (was now last : ViewerOf) (sees : SeesMore now la
         no_slot = no_slot;
         no_start = no_start;
         none = none;
+        unheld = (subst (λ (o : Option (ℕ × ℕ)). HoldsStream o new.is_requested new.number now.held)
+            at.started_is ends.holding).0;
         unnumbered = (subst (λ (o : Option (ℕ × ℕ)). HoldsStream o new.is_requested new.number now.held)
             at.started_is ends.holding).1;
         served = served_refused checked was now last left now_left source_failed source_ended before after sink_failed
-            old new outcome is_requested number why sees fresh at answers no_slot no_start none same;
+            old new outcome is_requested confirmed number why noted sees fresh at answers no_slot no_start none same;
       })
   ending (EndedAtOnce started why at streams logged) =
       inr (at_once checked was now last sees left now_left source_failed source_ended before after sink_failed old new
-      fresh outcome is_requested number said sender started why at streams logged)
+      fresh outcome is_requested confirmed number said noted sender started why at streams logged)
   ending (Streamed started between middle_left middle on runs logged) =
       inr (by_listener checked was now last sees left now_left source_failed source_ended before after sink_failed old
-      new fresh outcome is_requested number said sender between middle_left middle started on runs.why runs.hears
+      new fresh outcome is_requested confirmed number said noted sender between middle_left middle started on runs.why runs.hears
       runs.streams logged)
 
   served_at : Ending → IsServed checked left now_left source_failed source_ended before after sink_failed
-      (served_of outcome is_requested number last)
+      (served_of outcome is_requested confirmed number last)
   served_at (inl ends) = ends.served
   served_at (inr ends) = ends.served
 
@@ -165,18 +194,19 @@ module _ (checked : CheckedOf) (was now last : ViewerOf) (sees : SeesMore now la
 
   witnessed_at : (between : ViewerOf) → between.held ≡ now.held → number ≡ new.number
       → StartsWith last.seen sender.seen → IsAcceptedLog checked last.seen → ReleasesIf outcome.slot between last
-      → Ending → IsWitnessed checked (served_of outcome is_requested number last)
+      → Ending → IsWitnessed checked (served_of outcome is_requested confirmed number last)
   witnessed_at between held numbered begins accepted released (inl ends) =
-      witnessed_unstarted checked last outcome is_requested number accepted ends.no_slot ends.no_start ends.none
+      witnessed_unstarted checked last outcome is_requested confirmed number accepted ends.no_slot ends.no_start ends.none
+      (unheld_then outcome.slot between last ends.no_slot released ∙ held ∙ ends.unheld)
       (numbered ∙ ends.unnumbered)
   witnessed_at between held numbered begins accepted released (inr ends) =
       witnessed_stream checked now between last sender left now_left source_failed source_ended before after sink_failed
-      new outcome is_requested number said numbered held ends begins accepted released
+      new outcome is_requested confirmed number said numbered held ends begins accepted released
 
   module _ (serves : ServesOut checked was now left now_left source_failed source_ended before after sink_failed old new
       sender outcome) where
     pub served_by : IsServed checked left now_left source_failed source_ended before after sink_failed
-        (served_of outcome is_requested number last)
+        (served_of outcome is_requested confirmed number last)
     served_by = served_at (ending serves)
 
     pub holds_by : (held : Option Hold) → held ≡ now.held → (slot : ℕ) → outcome.slot ≡ Some slot → Holds held slot
@@ -184,6 +214,6 @@ module _ (checked : CheckedOf) (was now last : ViewerOf) (sees : SeesMore now la
 
     pub witnessed_by : (between : ViewerOf) → between.held ≡ now.held → number ≡ new.number
         → StartsWith last.seen sender.seen → IsAcceptedLog checked last.seen → ReleasesIf outcome.slot between last
-        → IsWitnessed checked (served_of outcome is_requested number last)
+        → IsWitnessed checked (served_of outcome is_requested confirmed number last)
     witnessed_by between held numbered begins accepted released =
         witnessed_at between held numbered begins accepted released (ending serves)

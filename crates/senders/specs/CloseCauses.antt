@@ -14,6 +14,9 @@ use Rattle.publisher_desk.specs.Held.{IsBookOf}
 use Rattle.publisher_desk.specs.Receipts.{ReceiptOf, transaction_of, transactions_of}
 use Rattle.publisher_desk.specs.Seats.{SeatOf}
 use Rattle.publisher_desk.specs.Logged.{RiseTo}
+use Rattle.publisher_desk.specs.SlotEvents.{acquisitions}
+use Rattle.publisher_desk.specs.SlotSights.{BeginsWith}
+use Rattle.publisher_desk.specs.declared.slot_event.SlotEvent.{SlotEvent}
 use Rattle.senders.specs.Gathering.{all_receipts, all_readings, numbers_of, IsRisingSeat}
 use Rattle.senders.specs.Histories.{AreInOrder, IsRight}
 use Rattle.senders.specs.Reached.{AreReached, IsOrder, LacksConnection}
@@ -92,7 +95,7 @@ pub record HasMissingConnection (book : Book) (acquired : ℕ) (seats : List Sea
     pub taken : All (IsTaken (book_log book)) served
     pub missing : LacksConnection acquired served
 
--- None is missing, and a stream started after a commit that its slot was never sent.
+-- None is missing, and a stream started after a commit that no client of its slot confirmed or passed over.
 pub record HasLateStart (book : Book) (acquired : ℕ) (seats : List SeatOf) (served : List ServedOf) : Type 0 where
   pub order : List ReceiptOf
   pub explained : IsExplainedBy book seats order
@@ -137,13 +140,15 @@ CanCome StartLate = Unit {0}
 CanCome OutOfMemory = Unit {0}
 
 -- The publisher's book is of the checked catalog, takes this number of commits and is of some list of transactions.
--- It has no fewer commits than the seats have receipts, and exactly as many if no seat is held back. So many streams
--- acquired slots. These are the cause of the refusal.
+-- It has no fewer commits than the seats have receipts, and exactly as many if no seat is held back. The events of the
+-- slots that each connection has seen are a beginning of these, in which so many streams acquired slots. These are the
+-- cause of the refusal.
 pub record RefusedClose (checked : CheckedOf) (limit all left : ℕ) (seats : List SeatOf) (served : List ServedOf)
     (error : CloseError) : Type 0 where
   pub book : Book
-  pub acquired : ℕ
+  pub events : List SlotEvent
+  pub known : All (λ (one : ServedOf). BeginsWith events one.viewer.events) served
   pub is : IsBookOf checked limit book
   pub counted : IsCounted all left seats (length (book_log book))
-  pub cause : IsCloseCause book acquired seats served error
+  pub cause : IsCloseCause book (acquisitions events) seats served error
   pub held_back : IsHeldBack all left seats error

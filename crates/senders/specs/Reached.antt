@@ -1,9 +1,10 @@
--- That no stream started after commits of the log that its slot was never sent: PostgreSQL 15, "Logical Replication",
+-- That no stream started after commits of the log that no client of its slot confirmed: PostgreSQL 15, "Logical Replication",
 -- 31.2.1 Replication Slot Management.
 use Rattle.std.specs.Prelude.{◌≡◌, ◌≢◌, ◌<◌, ◌≤◌, ℕ, ◌+◌, true, List, [], ◌∷◌, ◌++◌, Contains, length, map, Option, Some, None}
 use Rattle.std.specs.List.{range_with_len}
 use Rattle.std.specs.List.Sorted.{IsPermutation, IsNonDecreasingBy}
 use Rattle.senders.specs.Results.{ServedOf, taken_from}
+use Rattle.senders.specs.TakenCommits.{confirmed_to}
 
 -- ---- the connections that started a stream
 
@@ -37,10 +38,9 @@ pub record LacksConnection (count : ℕ) (all : List ServedOf) : Type 0 where
 -- ---- the commits before a start
 
 -- The commit of the log that this number of commits precede is accounted for by a connection of the slot: it was taken
--- for it, or it is before the position that its client requested.
+-- for it, and its client confirmed it; or it is before the position that its client requested.
 pub data Accounts (slot count : ℕ) (one : ServedOf) : Type 0 where
-  Takes : one.slot ≡ Some slot → taken_from one ≤ count → count < taken_from one + length one.taken
-      → Accounts slot count one
+  Confirms : one.slot ≡ Some slot → taken_from one ≤ count → count < confirmed_to one → Accounts slot count one
   Requests : one.slot ≡ Some slot → one.is_requested ≡ true → count < taken_from one → Accounts slot count one
 
 -- One of the connections accounts for it.
@@ -50,7 +50,8 @@ pub record IsAccounted (all : List ServedOf) (slot count : ℕ) : Type 0 where
   pub by : Accounts slot count one
 
 -- In this order of the connections: each commit before the start of one of the slot was taken for one of the slot
--- before it, or is before a position that its client, or that of one of the slot before it, requested.
+-- before it, whose client confirmed it, or is before a position that its client, or that of one of the slot before it,
+-- requested.
 abbrev pub IsReached : List ServedOf → ℕ → Type 0
 IsReached order slot = (earlier : List ServedOf) (one : ServedOf) (later : List ServedOf)
     → order ≡ earlier ++ one ∷ later → one.slot ≡ Some slot → (count : ℕ) → count < taken_from one

@@ -1,6 +1,6 @@
 -- What contracts see of the result of a connection: the stream that it started, the commits that were taken for it, and
 -- what it has seen of its publisher: PostgreSQL 15, 55.4. Streaming Replication Protocol.
-use Rattle.std.specs.Prelude.{◌≡◌, ℕ, ◌≤◌, Bool, List, length, map, unwrap_or, Option, Some, None}
+use Rattle.std.specs.Prelude.{◌≡◌, ℕ, ◌≤◌, Bool, false, List, length, map, unwrap_or, Option, Some, None}
 use Rattle.std.specs.Arc.{arc_value}
 use Rattle.shard_checker.specs.CheckedView.{CheckedOf}
 use Rattle.tables_log.specs.Commits.{CommitOf}
@@ -8,7 +8,7 @@ use Rattle.tables_log.specs.Lsn.{commits_before}
 use Rattle.copy_both.specs.HeardFrames.{BooksOf}
 use Rattle.copy_both.specs.VoiceLaws.{AreAt}
 use Rattle.publisher_desk.specs.Receipts.{transactions_of}
-use Rattle.publisher_desk.specs.SlotEvents.{uses_in}
+use Rattle.publisher_desk.specs.SlotEvents.{use_after, uses_in}
 use Rattle.publisher_desk.specs.SlotSights.{hold}
 use Rattle.publisher_desk.specs.Viewers.{HadSlot, IsAcceptedLog, ViewerOf, log_seen}
 use Rattle.publisher_desk.specs.declared.slot_event.Acquisition.{Acquisition}
@@ -16,13 +16,15 @@ use Rattle.publisher_desk.specs.declared.slot_event.SlotEvent.{SlotEvent}
 use Rattle.senders.specs.declared.end.End.{End}
 use Rattle.senders.specs.declared.outcome.Outcome.{Outcome}
 
--- `number` is that of the acquisition of its slot, from 1; 0 if it started no stream.
+-- `confirmed` is the last position up to which its client confirmed the log, 0 if there is none. `number` is that of the
+-- acquisition of its slot, from 1; 0 if it started no stream.
 pub record ServedOf : Type 0 where
   pub slot : Option ℕ
   pub start : Option ℕ
   pub is_requested : Bool
   pub taken : List CommitOf
   pub end : End
+  pub confirmed : ℕ
   pub number : ℕ
   pub viewer : ViewerOf
 
@@ -30,13 +32,14 @@ pub record ServedOf : Type 0 where
 abbrev pub commits_of : Outcome → List CommitOf
 commits_of outcome = map (λ commit. arc_value commit) outcome.taken.items
 
-abbrev pub served_of : Outcome → Bool → ℕ → ViewerOf → ServedOf
-served_of outcome is_requested number viewer = record {
+abbrev pub served_of : Outcome → Bool → ℕ → ℕ → ViewerOf → ServedOf
+served_of outcome is_requested confirmed number viewer = record {
   slot = outcome.slot;
   start = outcome.start;
   is_requested = is_requested;
   taken = commits_of outcome;
   end = outcome.end;
+  confirmed = confirmed;
   number = number;
   viewer = viewer;
 }
@@ -54,18 +57,21 @@ books_seen viewer = record { log = transactions_of viewer.seen; uses = uses_in v
 abbrev pub acquisition : ℕ → ℕ → Bool → Acquisition
 acquisition slot start is_requested = record { slot = slot; start = start; is_requested = is_requested }
 
--- It had the slot of its stream, and released it; or it started none.
-abbrev pub HadStream : Option ℕ → Option ℕ → Bool → ℕ → List SlotEvent → Type 0
-HadStream (Some slot) (Some start) is_requested number events =
-    HadSlot events (hold (acquisition slot start is_requested) number)
-HadStream None None is_requested number events = number ≡ 0
-HadStream (Some slot) None is_requested number events = ⊥
-HadStream None (Some start) is_requested number events = ⊥
+-- It had the slot of its stream, and released it when the log had so many commits; or it started none.
+abbrev pub HadStream : Option ℕ → Option ℕ → Bool → ℕ → ℕ → List SlotEvent → Type 0
+HadStream (Some slot) (Some start) is_requested number commits events =
+    HadSlot events (hold (acquisition slot start is_requested) number) commits
+HadStream None None is_requested number commits events = number ≡ 0
+HadStream (Some slot) None is_requested number commits events = ⊥
+HadStream None (Some start) is_requested number commits events = ⊥
 
 -- The commits that were taken for it are those of the log that it has seen, from its start on, which is not after that
--- log's end. It had its slot.
+-- log's end. It had its slot, and that log is the one as of the release. Then the slot was free, and it has no other.
 pub record IsWitnessed (checked : CheckedOf) (served : ServedOf) : Type 0 where
   pub accepted : IsAcceptedLog checked served.viewer.seen
   pub within : taken_from served ≤ length served.viewer.seen
   pub taken : AreAt (log_seen checked served.viewer.seen) (taken_from served) served.taken
-  pub had : HadStream served.slot served.start served.is_requested served.number served.viewer.events
+  pub had : HadStream served.slot served.start served.is_requested served.number (length served.viewer.seen)
+      served.viewer.events
+  pub free : (slot : ℕ) → served.slot ≡ Some slot → use_after served.viewer.events slot ≡ false
+  pub none : served.viewer.held ≡ None

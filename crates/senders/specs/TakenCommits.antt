@@ -1,14 +1,19 @@
 -- The commits that were taken up for a connection, and those of the log: PostgreSQL 15, 55.4. Streaming Replication
 -- Protocol.
-use Rattle.std.specs.Prelude.{ℕ, ◌≡◌, ◌≤◌, ◌+◌, List, length}
+use Rattle.std.specs.Prelude.{ℕ, ◌≡◌, ◌≤◌, ◌+◌, min, List, length}
 use Rattle.copy_both.specs.VoiceLaws.{AreAt}
 use Rattle.tables_log.specs.Commits.{CommitOf}
+use Rattle.tables_log.specs.Lsn.{commits_before}
 use Rattle.senders.specs.Results.{ServedOf, taken_from}
 use Rattle.senders.specs.declared.end.End.TheVariants.{Finished}
 
 -- how many commits the log has up to the last one that was taken for it
 abbrev pub taken_to : ServedOf → ℕ
 taken_to served = taken_from served + length served.taken
+
+-- and up to the last one that its client confirmed
+abbrev pub confirmed_to : ServedOf → ℕ
+confirmed_to served = min (taken_to served) (commits_before served.confirmed)
 
 -- if it was finished, its commits reach the log's end
 abbrev pub IsWhole : List CommitOf → ServedOf → Type 0

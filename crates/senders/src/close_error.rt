@@ -23,9 +23,9 @@ pub enum CloseError {
     /// A stream was started for a connection that is not among those that were passed in.
     #[error("the result of a connection is missing")]
     ConnectionMissing,
-    /// A stream started after a commit that was taken for no earlier connection of its slot, although neither its
-    /// client nor an earlier one of the slot requested a later position.
-    #[error("a stream started after a commit that its slot was never sent")]
+    /// A stream started after a commit that was taken for no earlier connection of its slot whose client confirmed it,
+    /// although neither its own client nor an earlier one of the slot requested a later position.
+    #[error("a stream started after a commit that no client of its slot confirmed")]
     StartLate,
     /// An allocation was refused.
     #[error("out of memory")]

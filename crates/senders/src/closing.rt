@@ -3,6 +3,7 @@
 ghost use Rattle.std.specs.Prelude.{◌≡◌, ℕ, List, All, map, length, IfOk, IfErr, OnOk};
 ghost use Rattle.tables_log.specs.BookView.{book_log, book_slots, book_checked, book_limit};
 ghost use Rattle.tables_log.specs.Committing.{ChangesSlots, IsNew};
+ghost use Rattle.tables_log.specs.Slots.{KeepsUse};
 ghost use Rattle.publisher_desk.specs.Counting.{IsCounted};
 ghost use Rattle.publisher_desk.specs.Held.{IsBookOf};
 ghost use Rattle.publisher_desk.specs.Seats.{IsForwardSeat, IsTimedSeat};
@@ -58,7 +59,8 @@ fn order_receipts<'a, P: Publishing>(
 /// Confirms each slot of the fresh book as far as it is confirmed in the first one.
 fn keep_confirmed(fresh: &mut Book, book: &Book, slots: usize)
     requires { length (book_log book.now) ≡ length (book_log fresh.old) }
-    ensures { ChangesSlots fresh.old fresh.new (book_slots fresh.new) }
+    ensures slots { ChangesSlots fresh.old fresh.new (book_slots fresh.new) }
+    ensures uses { KeepsUse (book_slots fresh.old) (book_slots fresh.new) }
 {
     for slot in 0..slots {
         let position = book.confirmed(slot);
@@ -137,9 +139,9 @@ fn counted_book<P: Publishing>(
 /// it says. The commits that each connection took need no comparison, since its type says that they are those of the
 /// log from its start on; they have to reach the log's end if it was finished. Each stream that acquired a slot has to
 /// be that of a connection that is passed in. In the order of these acquisitions, each commit before the start of a
-/// connection has to be one that was taken for an earlier connection of its slot, or to be before a position that its
-/// client, or that of an earlier one of the slot, requested. The book that is returned is the one on which the receipts
-/// were made again. Its slots are free, and confirmed as far as the publisher's.
+/// connection has to be one that was taken for an earlier connection of its slot, whose client confirmed it, or to be
+/// before a position that its client, or that of an earlier one of the slot, requested. The book that is returned is the
+/// one on which the receipts were made again. Its slots are free, and confirmed as far as the publisher's.
 ///
 /// It takes the time to commit all commands again, as in `Book::commit`; to sort the receipts, the readings and the
 /// connections; to look up the row of each reading; and to pass over the connections once for each slot.

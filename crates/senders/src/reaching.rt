@@ -1,4 +1,4 @@
-//! Whether no stream started after commits that its slot was never sent.
+//! Whether no stream started after commits that no client of its slot confirmed.
 
 ghost use Rattle.std.specs.Prelude.{◌≡◌, ◌≢◌, ◌<◌, All, IfErr, IfOk, MatchBool, OnOk, Some, false, map, true};
 ghost use Rattle.std.specs.List.{range_with_len};
@@ -9,7 +9,7 @@ ghost use Rattle.senders.specs.Starts.{AreInTime, IsStartCause};
 
 use crate::close_error::CloseError;
 use crate::served::Served;
-use crate::taken::{commits_before, commits_up_to};
+use crate::taken::{commits_before, commits_confirmed};
 use publisher_desk::Publishing;
 use std::alloc::{AllocError, Global};
 use tables_log::SlotNumber;
@@ -72,7 +72,7 @@ fn is_late<P: Publishing>(one: &Served<P>, reach: u64) -> bool
 }
 
 /// Whether each commit before the start of a connection of the slot was taken for a connection of the slot before it,
-/// or is before a position that its client, or that of one of the slot before it, requested.
+/// whose client confirmed it, or is before a position that its client, or that of one of the slot before it, requested.
 fn is_reached<P: Publishing>(starts: &[&Served<P>], slot: SlotNumber) -> bool
     ensures { MatchBool result (IsReached (map (λ one. one.now) starts.now) slot)
         (¬ IsReached (map (λ one. one.now) starts.now) slot) }
@@ -83,7 +83,7 @@ fn is_reached<P: Publishing>(starts: &[&Served<P>], slot: SlotNumber) -> bool
             if is_late(one, reach) {
                 return false;
             }
-            reach = reach.max(commits_up_to(one));
+            reach = reach.max(commits_before(one)).max(commits_confirmed(one));
         }
     }
     true
@@ -104,8 +104,8 @@ fn are_reached<P: Publishing>(starts: &[&Served<P>], slots: usize) -> bool
 
 /// Checks that, of this number of acquisitions of slots, each is that of a connection. Then, for each of this number of
 /// slots, in the order of their numbers: each commit before the start of a connection of the slot was taken for a
-/// connection of the slot before it, or is before a position that its client, or that of one of the slot before it,
-/// requested.
+/// connection of the slot before it, whose client confirmed it, or is before a position that its client, or that of one
+/// of the slot before it, requested.
 ///
 /// It takes the time to sort the connections once, and to pass over them once for each slot.
 ///

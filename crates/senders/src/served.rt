@@ -17,6 +17,7 @@ use tables_log::{Commit, SlotNumber};
 pub struct Served<P: Publishing> {
     outcome: Outcome,
     is_requested: bool,
+    confirmed: u64,
     number: u64,
     /// What the connection has seen of its publisher, for proofs.
     viewer: Viewer<P>,
@@ -27,9 +28,9 @@ impl<P: Publishing> Model for Served<P> {
 
     ghost Value = { ServedOf };
 
-    ghost view = { λ s. served_of s.outcome s.is_requested s.number s.viewer };
+    ghost view = { λ s. served_of s.outcome s.is_requested s.confirmed s.number s.viewer };
 
-    ghost invariant = { λ s. IsWitnessed P.checked (served_of s.outcome s.is_requested s.number s.viewer) };
+    ghost invariant = { λ s. IsWitnessed P.checked (served_of s.outcome s.is_requested s.confirmed s.number s.viewer) };
 }
 
 impl<P: Publishing> Served<P> {
@@ -42,15 +43,17 @@ impl<P: Publishing> Served<P> {
     pub(crate) fn new(
         outcome: Outcome,
         is_requested: bool,
+        confirmed: u64,
         number: u64,
         viewer: Viewer<P>,
     ) -> Served<P>
-        requires { IsWitnessed P.checked (served_of outcome is_requested number viewer) }
-        ensures { result ≡ served_of outcome is_requested number viewer }
+        requires { IsWitnessed P.checked (served_of outcome is_requested confirmed number viewer) }
+        ensures { result ≡ served_of outcome is_requested confirmed number viewer }
     {
         Served {
             outcome,
             is_requested,
+            confirmed,
             number,
             viewer,
         }
@@ -91,6 +94,13 @@ impl<P: Publishing> Served<P> {
         ensures { result ≡ self.now.end }
     {
         self.outcome.end
+    }
+
+    /// The last position up to which its client confirmed the log, in bytes; 0 if it confirmed nothing.
+    pub fn confirmed(&self) -> u64
+        ensures { result ≡ self.now.confirmed }
+    {
+        self.confirmed
     }
 
     /// The number of the acquisition of its slot among all of its publisher, from 1; 0 if it started no stream.

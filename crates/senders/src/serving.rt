@@ -287,7 +287,7 @@ pub fn serve<
     let alloc = publisher.allocator();
     let Ok(mut listener) = Listener::new(alloc, publisher.checked()) else {
         let outcome = unstarted(alloc, End::Link(LinkFault::OutOfMemory));
-        return Served::new(outcome, false, 0, Viewer::new());
+        return Served::new(outcome, false, 0, 0, Viewer::new());
     };
     let mut viewer = Viewer::new();
     let (outcome, mut sender) = outcome_of(
@@ -302,5 +302,11 @@ pub fn serve<
     publisher.compare(rt, &mut viewer, &mut sender);
     release_if(rt, publisher, &mut viewer, outcome.slot);
     viewer.is_accepted();
-    Served::new(outcome, listener.is_requested(), listener.number(), viewer)
+    Served::new(
+        outcome,
+        listener.is_requested(),
+        listener.confirmed(),
+        listener.number(),
+        viewer,
+    )
 }

@@ -3,7 +3,7 @@
 ghost use Rattle.std.specs.Prelude.{◌≡◌, ◌≤◌, ◌^◌, All, MatchBool};
 ghost use Rattle.tables_log.specs.BookView.{book_log};
 ghost use Rattle.senders.specs.Results.{taken_from};
-ghost use Rattle.senders.specs.TakenCommits.{IsWhole, taken_to};
+ghost use Rattle.senders.specs.TakenCommits.{IsWhole, confirmed_to, taken_to};
 
 use crate::end::End;
 use crate::served::Served;
@@ -26,6 +26,14 @@ pub(crate) fn commits_up_to<P: Publishing>(served: &Served<P>) -> u64
     ensures { result ≡ taken_to served.now }
 {
     commits_before(served) + served.taken().len() as u64
+}
+
+/// How many commits the log has up to the last one that was taken for the connection and that its client confirmed.
+pub(crate) fn commits_confirmed<P: Publishing>(served: &Served<P>) -> u64
+    ensures { result ≡ confirmed_to served.now }
+{
+    let confirmed = Lsn::new(served.confirmed()).commits_before();
+    commits_up_to(served).min(confirmed)
 }
 
 /// Whether the connection took the commits up to the log's end, if it was finished.

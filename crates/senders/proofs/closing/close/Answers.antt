@@ -9,13 +9,13 @@ pub returns-in_err-checked-clause-refused : goal.returns-in_err-checked-clause-r
 returns-in_err-checked-clause-refused g c =
     memory_refused g.P.Publishing.checked g.P.Publishing.limit g.P.Ledger.parts c.args.rest c.counted_book-book.result.0
     c.counted_book-book.result.1 c.args.seats.items c.args.served.items c.counted_book-book.ensures.is
-    c.counted_book-book.ensures.counted c.from_residual.result c.from_residual.ensures.1
+    c.counted_book-book.ensures.counted c.counted_book-book.ensures.witnessed c.from_residual.result c.from_residual.ensures.1
 
 pub returns-in_err-fresh-clause-refused : goal.returns-in_err-fresh-clause-refused
 returns-in_err-fresh-clause-refused g c =
     memory_refused g.P.Publishing.checked g.P.Publishing.limit g.P.Ledger.parts c.args.rest c.counted_book-book.result.0
     c.counted_book-book.result.1 c.args.seats.items c.args.served.items c.counted_book-book.ensures.is
-    c.counted_book-book.ensures.counted c.from_residual-in_err-fresh.result c.from_residual-in_err-fresh.ensures.1
+    c.counted_book-book.ensures.counted c.counted_book-book.ensures.witnessed c.from_residual-in_err-fresh.result c.from_residual-in_err-fresh.ensures.1
 
 pub returns-in_err-compare-clause-refused : goal.returns-in_err-compare-clause-refused
 returns-in_err-compare-clause-refused g c =
@@ -24,7 +24,8 @@ returns-in_err-compare-clause-refused g c =
     c.from_residual-in_err-compare.result c.in_err-compare.field-0.0 (search rules)
     (refused_as_named g.P.Publishing.checked g.P.Publishing.limit g.P.Ledger.parts c.args.rest
     c.counted_book-book.result.0 c.counted_book-book.result.1 c.args.seats.items c.args.served.items
-    c.counted_book-book.ensures.is c.counted_book-book.ensures.counted c.as_slice.result.now
+    c.counted_book-book.ensures.is c.counted_book-book.ensures.counted c.counted_book-book.ensures.witnessed
+    c.as_slice.result.now
     c.as_slice-2.result.now c.in_err-compare.field-0.0
     (c.as_slice.ensures.value ∙ c.counted_book-book.ensures.same)
     (c.as_slice-2.ensures.value ∙ c.counted_book-book.ensures.served) c.in_err-compare.ensures.err)
@@ -44,7 +45,7 @@ returns-clause-ok g c =
     c.as_slice-2.result.now c.counted_book-book.ensures.is
     (c.as_slice.ensures.value ∙ c.counted_book-book.ensures.same)
     (c.as_slice-2.ensures.value ∙ c.counted_book-book.ensures.served) c.in_ok-compare.ensures.ok
-    c.keep_confirmed.ensures
+    c.keep_confirmed.ensures.slots c.keep_confirmed.ensures.uses
 
 pub returns-in_err-checked-clause-possible : goal.returns-in_err-checked-clause-possible
 returns-in_err-checked-clause-possible g c = memory_comes c.from_residual.result c.from_residual.ensures.1

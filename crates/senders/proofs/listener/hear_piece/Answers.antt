@@ -3,7 +3,7 @@ use Rattle.std.specs.Prelude.{Result}
 use Rattle.copy_both.specs.Ears.{HearLeaves, ear_phase}
 use Rattle.copy_both.specs.declared.heard.Heard.{Heard}
 use Rattle.copy_both.specs.declared.link_fault.LinkFault.{LinkFault}
-use Rattle.senders.proofs.HearingLemmas.{memory_leaves}
+use Rattle.senders.proofs.MemoryLemmas.{memory_leaves}
 use Rattle.senders.proofs.listener.hear_piece.Goals as goal
 
 pub returns-else-has_start-clause-left : goal.returns-else-has_start-clause-left

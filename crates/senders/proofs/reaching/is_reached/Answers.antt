@@ -1,6 +1,6 @@
 use Rattle.std.proofs.Common.{◌≡◌, ◌<◌, ℕ, ◌+◌, Bor, List, ◌++◌, ◌∷◌, [], length, map, max, take, drop, ap, subst, sym, ◌∙◌, rules, arith}
-use Rattle.senders.specs.Results.{ServedOf}
-use Rattle.senders.specs.TakenCommits.{taken_to}
+use Rattle.senders.specs.Results.{ServedOf, taken_from}
+use Rattle.senders.specs.TakenCommits.{confirmed_to}
 use Rattle.senders.proofs.ReachLemmas.{AreReachedTo, around, none_reached, not_reached, of_another, of_this, one_more}
 use Rattle.senders.proofs.reaching.is_reached.Goals.{then-is_of+else-is_late, else-is_of}
 use Rattle.senders.proofs.reaching.is_reached.Goals as goal
@@ -28,9 +28,15 @@ loop-one-preserved g c =
     let Goal : ℕ → Type 0 = λ reach. AreReachedTo c.args.slot reach (take (place + 1) shown) in
     elim c.if-is_of.branch [
       | then-is_of+else-is_late w ↦
-          let next : w.max-reach.result ≡ max c.loop-one.reach w.commits_up_to.result = search rules in
-          subst Goal (sym (w.reach-is ∙ next ∙ ap (max c.loop-one.reach) w.commits_up_to.ensures))
-          (subst (AreReachedTo c.args.slot (max c.loop-one.reach (taken_to one))) (sym more)
+          let first : w.max.result ≡ max c.loop-one.reach w.commits_before.result = search rules in
+          let next : w.max-reach.result ≡ max w.max.result w.commits_confirmed.result = search rules in
+          let from : w.max.result ≡ max c.loop-one.reach (taken_from one) =
+          first ∙ ap (max c.loop-one.reach) w.commits_before.ensures.is in
+          let reach_is : w.max-reach.result ≡ max (max c.loop-one.reach (taken_from one)) (confirmed_to one) =
+          next ∙ ap (λ (n : ℕ). max n w.commits_confirmed.result) from
+          ∙ ap (max (max c.loop-one.reach (taken_from one))) w.commits_confirmed.ensures in
+          subst Goal (sym (w.reach-is ∙ reach_is))
+          (subst (AreReachedTo c.args.slot (max (max c.loop-one.reach (taken_from one)) (confirmed_to one))) (sym more)
           (of_this c.args.slot c.loop-one.reach (take place shown) one c.loop-one.invariant w.if-is_of.ensures
           w.if-is_late.ensures))
       | else-is_of w ↦

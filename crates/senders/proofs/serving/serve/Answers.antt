@@ -16,7 +16,7 @@ returns-in_default-clause-served g c =
     (g.S.Source.has_failed c.args.reader.now) (g.S.Source.has_ended c.args.reader.now)
     (g.W.Sink.taken c.args.writer.now) (g.W.Sink.taken c.args.writer.now) (g.W.Sink.has_failed c.args.writer.now))
     (sym (c.new-in_default-2.ensures
-    ∙ ap (λ (viewer : ViewerOf). served_of c.unstarted-outcome.result false 0 viewer) c.new-in_default.ensures))
+    ∙ ap (λ (viewer : ViewerOf). served_of c.unstarted-outcome.result false 0 0 viewer) c.new-in_default.ensures))
     (served_nothing g.P.Publishing.checked (g.S.Source.left c.args.reader.now)
     (g.S.Source.has_failed c.args.reader.now) (g.S.Source.has_ended c.args.reader.now)
     (g.W.Sink.taken c.args.writer.now) (g.W.Sink.has_failed c.args.writer.now) c.unstarted-outcome.result
@@ -35,7 +35,8 @@ release_if-requires g c =
     (g.W.Sink.taken c.args.writer.now) (g.W.Sink.taken c.outcome_of-outcome.new.writer)
     (g.W.Sink.has_failed c.outcome_of-outcome.new.writer) c.in-Ok.listener c.outcome_of-outcome.new.listener
     (subst (λ (viewer : ViewerOf). HasListened checked viewer [] c.in-Ok.listener) (sym c.new-viewer.ensures) fresh)
-    c.outcome_of-outcome.result.1 c.outcome_of-outcome.result.0 c.outcome_of-outcome.new.listener.is_requested 0 refl
+    c.outcome_of-outcome.result.1 c.outcome_of-outcome.result.0 c.outcome_of-outcome.new.listener.is_requested
+    c.outcome_of-outcome.new.listener.confirmed 0 refl refl
     c.outcome_of-outcome.ensures c.compare.new.viewer.held c.compare.ensures.held
 
 pub new-requires-2 : goal.new-requires-2
@@ -51,8 +52,8 @@ new-requires-2 g c =
     (g.W.Sink.taken c.args.writer.now) (g.W.Sink.taken c.outcome_of-outcome.new.writer)
     (g.W.Sink.has_failed c.outcome_of-outcome.new.writer) c.in-Ok.listener c.outcome_of-outcome.new.listener
     (subst (λ (viewer : ViewerOf). HasListened checked viewer [] c.in-Ok.listener) (sym c.new-viewer.ensures) fresh)
-    c.outcome_of-outcome.result.1 c.outcome_of-outcome.result.0 c.is_requested.result c.number.result
-    c.is_requested.ensures c.outcome_of-outcome.ensures c.compare.new.viewer c.compare.ensures.held c.number.ensures
+    c.outcome_of-outcome.result.1 c.outcome_of-outcome.result.0 c.is_requested.result c.confirmed.result
+    c.number.result c.is_requested.ensures c.confirmed.ensures c.outcome_of-outcome.ensures c.compare.new.viewer c.compare.ensures.held c.number.ensures
     (starts_on c.compare.new.viewer c.release_if.new.viewer c.outcome_of-outcome.result.1
     (sees_if c.outcome_of-outcome.result.0.slot c.compare.new.viewer c.release_if.new.viewer c.release_if.ensures)
     c.compare.ensures.begins) c.is_accepted.ensures c.release_if.ensures
@@ -75,5 +76,5 @@ returns-clause-served g c =
     (g.W.Sink.taken c.args.writer.now) (g.W.Sink.taken c.outcome_of-outcome.new.writer)
     (g.W.Sink.has_failed c.outcome_of-outcome.new.writer) c.in-Ok.listener c.outcome_of-outcome.new.listener
     (subst (λ (viewer : ViewerOf). HasListened checked viewer [] c.in-Ok.listener) (sym c.new-viewer.ensures) fresh)
-    c.outcome_of-outcome.result.1 c.outcome_of-outcome.result.0 c.is_requested.result c.number.result
-    c.is_requested.ensures c.outcome_of-outcome.ensures)
+    c.outcome_of-outcome.result.1 c.outcome_of-outcome.result.0 c.is_requested.result c.confirmed.result
+    c.number.result c.is_requested.ensures c.confirmed.ensures c.outcome_of-outcome.ensures)

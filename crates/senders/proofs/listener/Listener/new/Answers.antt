@@ -1,4 +1,4 @@
-use Rattle.std.proofs.Common.{◌≡◌, ℕ, [], ◌∙◌, refl, subst, sym, ap}
+use Rattle.std.proofs.Common.{◌≡◌, ℕ, [], ◌∙◌, refl, subst, sym, ap, arith}
 use Rattle.std.specs.Prelude.{Option, None, false}
 use Rattle.std.specs.Arc.{arc_value}
 use Rattle.shard_checker.specs.CheckedView.{CheckedOf, checked_view}
@@ -19,6 +19,7 @@ returns-clause-heard c =
           (new.ensures.checked ∙ ap (λ (checked : Checked). checked_view checked) same)
           (nothing_is_heard (books_seen new_viewer) new.result new.ensures.phase new.ensures.started new.ensures.held);
       requested = λ slot start started says. cc;
+      confirmed = λ some. absurd (omega (arith, some));
       holding = subst (λ (start : Option (ℕ × ℕ)). HoldsStream start false 0 None) (sym new.ensures.started)
           (refl, refl);
     }
