@@ -35,7 +35,7 @@ CLOSINGS = {
     "ReadingWrong": "a reading differs from what the commits left",
     "TakenDiffers": "a finished connection stops before the end of the log",
     "ConnectionMissing": "the result of a connection is missing",
-    "StartLate": "a stream started after a commit that its slot was never sent",
+    "StartLate": "a stream started after a commit that no client of its slot confirmed",
 }
 
 PARTS = {
