@@ -12,13 +12,13 @@ use Rattle.tables_log.specs.Slots.{changed, confirmed_at, confirmed_of, confirme
 use Rattle.tables_log.specs.declared.book.Book.{Book}
 use Rattle.tables_log.specs.declared.slots.Slot.{Slot}
 use Rattle.tables_log.proofs.PlaceLemmas.{get_set_beside, get_set_here, number_apart, number_is}
-use Rattle.copy_frames.specs.Frames.{FrameCut, after_frames, cut, frames_of, rest_of}
+use Rattle.copy_frames.specs.Frames.{after_frames, cut, frames_of, rest_of}
 use Rattle.copy_frames.specs.declared.frame.Frame.{Frame}
 use Rattle.copy_frames.specs.declared.status.Status.{Status}
 use Rattle.copy_frames.proofs.PieceLemmas.{cut_more, more_after}
-use Rattle.copy_both.specs.Ears.{HearLeaves, HearsPiece, ear_phase, ear_started}
+use Rattle.copy_both.specs.Ears.{HearLeaves, HearsPiece, ear_started}
 use Rattle.copy_both.specs.Events.{event_of}
-use Rattle.copy_both.specs.HeardFrames.{BooksOf, Confirms, ConfirmsAs, HasHeard, HasStatus, IsAmong, IsLater, IsStartedBy, IsStatus, StatusesConfirm, Stays, frames_in}
+use Rattle.copy_both.specs.HeardFrames.{BooksOf, Confirms, ConfirmsAs, HasHeard, HasStatus, IsAmong, IsStartedBy, IsStatus, StatusesConfirm, Stays, frames_in}
 use Rattle.copy_both.specs.Hearing.{BeginOf, Begins, Refuses, HearingOf, ServedFrom, begin_of, begun, confirmed_by, ended_by, event_heard, frame_heard, frames_heard, is_over, next_heard, unless_over}
 use Rattle.copy_both.specs.Listening.{Leaves, PieceLeaves, fed, held_frames, part_heard, piece_heard, silence}
 use Rattle.copy_both.specs.Phases.{IsReady}
@@ -29,7 +29,6 @@ use Rattle.copy_both.specs.declared.event.Event.TheVariants as event
 use Rattle.copy_both.specs.declared.heard.Heard.{Heard}
 use Rattle.copy_both.specs.declared.link_fault.LinkFault.{LinkFault}
 use Rattle.copy_both.specs.declared.link_fault.LinkFault.TheVariants as fault
-use Rattle.copy_both.specs.declared.phase.Phase.TheVariants as phase
 use Rattle.copy_both.proofs.FrameRuns.{over_by_end, status_event_is}
 use Rattle.copy_both.proofs.HearingLemmas.{over_stays}
 use Rattle.copy_both.proofs.PiecesHeard.{frames_after, frames_more}

@@ -89,7 +89,8 @@ IsUsedIf did checked old new before after (Some answer) = IsUsed did checked old
 abbrev pub release : ℕ → ℕ → Release
 release slot commits = record { slot = slot; commits = commits }
 
--- The stream acquired its slot, and released it when the log had so many commits; no event between these is of the slot.
+-- The stream acquired its slot, and released it when the log had so many commits; no event between these is of the
+-- slot.
 pub record HadSlot (events : List SlotEvent) (held : Hold) (commits : ℕ) : Type 0 where
   pub before : List SlotEvent
   pub between : List SlotEvent

@@ -15,7 +15,8 @@ pub(crate) enum Step {
     Read,
     /// The slot is confirmed up to the end of the first commit, which no client does.
     Confirm,
-    /// A connection that starts where the slot is confirmed is served until it is finished. Its client confirms nothing.
+    /// A connection that starts where the slot is confirmed is served until it is finished. Its client confirms
+    /// nothing.
     Serve,
     /// The same, but its client confirms the first commit.
     ServeConfirming,

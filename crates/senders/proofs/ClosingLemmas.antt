@@ -30,8 +30,7 @@ use Rattle.senders.specs.CloseCauses.{IsMissing, IsRepeated, IsNotLogged, IsExpl
 use Rattle.senders.specs.Closing.{IsClosed}
 use Rattle.publisher_desk.specs.Logged.{RiseTo}
 use Rattle.publisher_desk.specs.Sights.{StartsWith}
-use Rattle.publisher_desk.specs.SlotEvents.{acquisitions, no_use}
-use Rattle.publisher_desk.specs.SlotSights.{BeginsWith}
+use Rattle.publisher_desk.specs.SlotEvents.{no_use}
 use Rattle.senders.specs.Gathering.{receipts_in, all_receipts, all_readings, numbers_of, IsRisingSeat}
 use Rattle.senders.specs.Histories.{AreInOrder, AreWitnessed, IsRight}
 use Rattle.senders.specs.Replays.{Replays, IsAsLong, IsUnlikeIn}

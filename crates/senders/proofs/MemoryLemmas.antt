@@ -1,6 +1,6 @@
 -- What is left of a piece, all of whose frames were heard before memory was refused.
 use Rattle.std.proofs.Common.{ℕ, List, length, ◌++◌, sym, subst, arith, take_all}
-use Rattle.std.specs.Prelude.{Bool, true, false, Option, Some, None, Result, Err}
+use Rattle.std.specs.Prelude.{Bool, true, false, Option, Some, None, Err}
 use Rattle.tables_log.specs.declared.book.Book.{Book}
 use Rattle.copy_frames.specs.Frames.{fault_in}
 use Rattle.copy_frames.specs.Inboxes.{Inbox}

@@ -23,15 +23,15 @@ abbrev pub HadStreamIn : List SlotEvent → ServedOf → Type 0
 HadStreamIn events one =
     HadStream one.slot one.start one.is_requested one.number (length one.viewer.seen) events
 
--- The book is of the checked catalog, takes this number of commits, and is that of the transactions of the receipts
--- in the order of their numbers; its log has an entry for each, and no slot is in use. What each seat has seen is a beginning of these
--- receipts. Each reading is right by these transactions, and is of no fewer commits than an earlier note of its seat
--- knows of. Times have 64 bits. Each connection took the commits of the book's log, and what it has seen is a beginning
--- of the receipts. The events of the slots that it has seen are a beginning of all events, in which the stream of each
--- connection acquired its slot and released it, and no event in between is of the slot; each acquisition is that of one
--- of the connections. In the order of these, each commit before the start of a connection was taken for one of its slot
--- before it, whose client confirmed it, or is before a position that its client, or that of one of the slot before it,
--- requested.
+-- The book is of the checked catalog, takes this number of commits, and is that of the transactions of the receipts in
+-- the order of their numbers; its log has an entry for each, and no slot is in use. What each seat has seen is a
+-- beginning of these receipts. Each reading is right by these transactions, and is of no fewer commits than an earlier
+-- note of its seat knows of. Times have 64 bits. Each connection took the commits of the book's log, and what it has
+-- seen is a beginning of the receipts. The events of the slots that it has seen are a beginning of all events, in which
+-- the stream of each connection acquired its slot and released it, and no event in between is of the slot; each
+-- acquisition is that of one of the connections. In the order of these, each commit before the start of a connection
+-- was taken for one of its slot before it, whose client confirmed it, or is before a position that its client, or that
+-- of one of the slot before it, requested.
 pub record IsClosed (checked : CheckedOf) (limit : ℕ) (seats : List SeatOf) (served : List ServedOf) (book : Book)
     : Type 0 where
   pub named : book_checked book ≡ checked

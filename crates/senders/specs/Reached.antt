@@ -1,6 +1,6 @@
--- That no stream started after commits of the log that no client of its slot confirmed: PostgreSQL 15, "Logical Replication",
--- 31.2.1 Replication Slot Management.
-use Rattle.std.specs.Prelude.{◌≡◌, ◌≢◌, ◌<◌, ◌≤◌, ℕ, ◌+◌, true, List, [], ◌∷◌, ◌++◌, Contains, length, map, Option, Some, None}
+-- That no stream started after commits of the log that no client of its slot confirmed: PostgreSQL 15, "Logical
+-- Replication", 31.2.1 Replication Slot Management.
+use Rattle.std.specs.Prelude.{◌≡◌, ◌≢◌, ◌<◌, ◌≤◌, ℕ, true, List, [], ◌∷◌, ◌++◌, Contains, map, Option, Some, None}
 use Rattle.std.specs.List.{range_with_len}
 use Rattle.std.specs.List.Sorted.{IsPermutation, IsNonDecreasingBy}
 use Rattle.senders.specs.Results.{ServedOf, taken_from}

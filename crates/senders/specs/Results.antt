@@ -16,8 +16,8 @@ use Rattle.publisher_desk.specs.declared.slot_event.SlotEvent.{SlotEvent}
 use Rattle.senders.specs.declared.end.End.{End}
 use Rattle.senders.specs.declared.outcome.Outcome.{Outcome}
 
--- `confirmed` is the last position up to which its client confirmed the log, 0 if there is none. `number` is that of the
--- acquisition of its slot, from 1; 0 if it started no stream.
+-- `confirmed` is the last position up to which its client confirmed the log, 0 if there is none. `number` is that of
+-- the acquisition of its slot, from 1; 0 if it started no stream.
 pub record ServedOf : Type 0 where
   pub slot : Option ℕ
   pub start : Option ℕ

@@ -113,8 +113,8 @@ pub data HasClientLeft (source_ended : Bool) (frames : List Frame) (written : Li
 -- ---- all of it
 
 -- What came of a connection from which these bytes were read. Starts and refusals are those of a book that the
--- publisher has had. If it says that its client requested the position where the stream starts, the first frame does; if
--- it says that its client confirmed the log up to a position, a status does.
+-- publisher has had. If it says that its client requested the position where the stream starts, the first frame does;
+-- if it says that its client confirmed the log up to a position, a status does.
 pub record IsServedFor (checked : CheckedOf) (bytes : List ℕ) (source_failed source_ended : Bool)
     (before after : Option (List ℕ)) (sink_failed : Bool) (served : ServedOf) : Type 0 where
   pub written : List ℕ

@@ -132,16 +132,16 @@ fn counted_book<P: Publishing>(
     (book, acquired)
 }
 
-/// Closes a publisher whose sessions and connections are over. `rest` are the seats that were never handed out,
-/// `seats` those of the sessions, and `served` the results of the connections. The receipts of all seats are made
-/// again on a book without commits, in the order of their numbers: their commands have to be accepted, and each entry
-/// has to be that of the publisher's log. Each reading has to be the row of its key after the number of commits that
-/// it says. The commits that each connection took need no comparison, since its type says that they are those of the
-/// log from its start on; they have to reach the log's end if it was finished. Each stream that acquired a slot has to
-/// be that of a connection that is passed in. In the order of these acquisitions, each commit before the start of a
-/// connection has to be one that was taken for an earlier connection of its slot, whose client confirmed it, or to be
-/// before a position that its client, or that of an earlier one of the slot, requested. The book that is returned is the
-/// one on which the receipts were made again. Its slots are free, and confirmed as far as the publisher's.
+/// Closes a publisher whose sessions and connections are over. `rest` are the seats that were never handed out, `seats`
+/// those of the sessions, and `served` the results of the connections. The receipts of all seats are made again on a
+/// book without commits, in the order of their numbers: their commands have to be accepted, and each entry has to be
+/// that of the publisher's log. Each reading has to be the row of its key after the number of commits that it says. The
+/// commits that each connection took need no comparison, since its type says that they are those of the log from its
+/// start on; they have to reach the log's end if it was finished. Each stream that acquired a slot has to be that of a
+/// connection that is passed in. In the order of these acquisitions, each commit before the start of a connection has
+/// to be one that was taken for an earlier connection of its slot, whose client confirmed it, or to be before a
+/// position that its client, or that of an earlier one of the slot, requested. The book that is returned is the one on
+/// which the receipts were made again. Its slots are free, and confirmed as far as the publisher's.
 ///
 /// It takes the time to commit all commands again, as in `Book::commit`; to sort the receipts, the readings and the
 /// connections; to look up the row of each reading; and to pass over the connections once for each slot.

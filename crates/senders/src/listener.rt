@@ -26,8 +26,8 @@ const SLOTS: usize = 32;
 const PIECE: usize = 16_384;
 
 /// An ear, and the piece that it hears next: the first `filled` bytes; whether the client requested the position where
-/// the stream starts, which is after what was confirmed for the slot; the number of the acquisition of its slot, 0 if no
-/// stream was started; and the last position up to which the client confirmed the log, 0 if it confirmed nothing.
+/// the stream starts, which is after what was confirmed for the slot; the number of the acquisition of its slot, 0 if
+/// no stream was started; and the last position up to which the client confirmed the log, 0 if it confirmed nothing.
 #[derive(Drop)]
 pub struct Listener {
     ear: Ear,
