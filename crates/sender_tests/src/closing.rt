@@ -132,6 +132,15 @@ fn serve_next<P: Publishing + Sync, R: Threads + Wait + Clock + Abort + Sync>(
     Ok(())
 }
 
+/// The greatest position that a client of these connections confirmed.
+fn greatest_confirmed<P: Publishing>(served: &[Served<P>]) -> u64 {
+    let mut greatest = 0;
+    for one in served {
+        greatest = one.confirmed().max(greatest);
+    }
+    greatest
+}
+
 /// Drops the first result.
 fn lose_first<P: Publishing>(served: &mut Vec<Served<P>>) {
     if !served.is_empty() {
@@ -153,7 +162,10 @@ fn take<P: Publishing + Sync, R: Threads + Wait + Clock + Abort + Sync>(
         Step::Read => read_often(rt, alloc, publisher, seats)?,
         Step::Confirm => holds(rt, publisher.with_slots(rt, &mut ConfirmFirst)),
         Step::Serve => serve_next(rt, alloc, publisher, &[], served)?,
-        Step::ServeConfirming => serve_next(rt, alloc, publisher, CONFIRMS_FIRST, served)?,
+        Step::ServeConfirming => {
+            serve_next(rt, alloc, publisher, CONFIRMS_FIRST, served)?;
+            same(rt, greatest_confirmed(served.as_slice()), 128);
+        }
         Step::Request => {
             serve_finished(rt, alloc, publisher, AFTER_SECOND, &[], served)?;
         }
