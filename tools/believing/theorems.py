@@ -220,6 +220,8 @@ SESSIONS = Theorem("sessions", [
     clauses("publisher_desk", "publisher.rt", "read"),
     clauses("publisher_desk", "publisher.rt", "next_step"),
     clauses("publisher_desk", "publisher.rt", "with_slots"),
+    clauses("publisher_desk", "publisher.rt", "compare"),
+    clauses("publisher_desk", "publisher.rt", "compare_seat"),
 ], most=1550, tokens={
     **BOOKS,
     "book_limit": LIMIT,
@@ -231,6 +233,10 @@ SESSIONS = Theorem("sessions", [
 
 CLOSED = Theorem("closed", [
     clauses("senders", "closing.rt", "close"),
+    clauses("senders", "served.rt", "check", "seen"),
+    clauses("publisher_desk", "closing.rt", "check_seat", "seen"),
+    clauses("publisher_desk", "closing.rt", "book", "used"),
+    clauses("publisher_desk", "closing.rt", "count", "counted"),
     clauses("senders", "laws.rt", "closed_publishers_were_followed"),
     MADE,
 ], most=2400, tokens={

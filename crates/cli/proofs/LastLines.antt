@@ -6,7 +6,8 @@ use Rattle.shard_checker.specs.CheckedView.{CheckedOf}
 use Rattle.tables_log.specs.BookView.{book_log}
 use Rattle.tables_log.specs.declared.book.Book.{Book}
 use Rattle.publisher_desk.specs.Seats.{SeatOf, empty_seat}
-use Rattle.senders.specs.CloseCauses.{CanCome, RefusedClose}
+use Rattle.publisher_desk.specs.Viewers.{ClosingOf}
+use Rattle.senders.specs.CloseReasons.{RefusedClose}
 use Rattle.senders.specs.Closing.{IsClosed}
 use Rattle.senders.specs.Gathering.{all_receipts, receipts_in}
 use Rattle.senders.specs.declared.close_error.CloseError.{CloseError}
@@ -37,25 +38,28 @@ all_served {P} checked served filled place other below =
 
 -- the log has as many commits as the session has notes
 module _ (service : ServiceOf) (seat : SeatOf) (served : List ServedOf) (over : IsOver service seat served)
-    (checked : CheckedOf) (limit : ℕ) (is_for : IsFor service checked limit) where
-  commits : (book : Book) → IsClosed checked limit (seat ∷ []) served book → length (book_log book) ≡ length seat.notes
+    (checked : CheckedOf) (limit : ℕ) (closing : ClosingOf) (is_for : IsFor service checked limit) where
+  commits : (book : Book) → IsClosed checked limit closing (seat ∷ []) served book
+      → length (book_log book) ≡ length seat.notes
   commits book closed =
-      closed.counted ∙ (length_permutation (all_receipts (seat ∷ [])) closed.order closed.ordered.all
+      closed.counted ∙ (length_permutation (all_receipts (seat ∷ [])) closing.log closed.ordered.all
       ∙ (ap length (append-nil (receipts_in seat.notes))
       ∙ receipts_are_all service.checked service.limit 1 service.lists empty_seat seat over.committed refl))
 
-  pub closed_is_last : (book : Book) → IsClosed checked limit (seat ∷ []) served book
+  pub closed_is_last : (book : Book) → IsClosed checked limit closing (seat ∷ []) served book
       → IsLast service (closed_line (length (book_log book)) (length served)) Done
   closed_is_last book closed =
       subst (λ (n : ℕ). IsLast service (closed_line n (length served)) Done) (sym (commits book closed))
-      (Closed seat served book over
-      (subst (λ (c : CheckedOf). IsClosed c service.limit (seat ∷ []) served book) (sym is_for.checked_is)
-      (subst (λ (l : ℕ). IsClosed checked l (seat ∷ []) served book) (sym is_for.limit_is) closed)))
+      (Closed seat served closing book over
+      (subst (λ (c : CheckedOf). IsClosed c service.limit closing (seat ∷ []) served book) (sym is_for.checked_is)
+      (subst (λ (l : ℕ). IsClosed checked l closing (seat ∷ []) served book) (sym is_for.limit_is) closed)))
 
-  pub error_is_last : (error : CloseError) → RefusedClose checked limit 1000 999 (seat ∷ []) served error
-      → CanCome error → IsLastOf service error
-  error_is_last error refused possible name named =
-      Differs seat served error name over
-      (subst (λ (c : CheckedOf). RefusedClose c service.limit 1000 999 (seat ∷ []) served error) (sym is_for.checked_is)
-      (subst (λ (l : ℕ). RefusedClose checked l 1000 999 (seat ∷ []) served error) (sym is_for.limit_is) refused))
-      possible named
+  pub error_is_last : (error : CloseError) → RefusedClose checked limit 1000 999 closing (seat ∷ []) served error
+      → IsLastOf service error
+  error_is_last error refused name named =
+      Differs seat served closing error name over
+      (subst (λ (c : CheckedOf). RefusedClose c service.limit 1000 999 closing (seat ∷ []) served error)
+      (sym is_for.checked_is)
+      (subst (λ (l : ℕ). RefusedClose checked l 1000 999 closing (seat ∷ []) served error) (sym is_for.limit_is)
+      refused))
+      named

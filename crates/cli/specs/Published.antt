@@ -8,7 +8,8 @@ use Rattle.filter_tree.specs.Expr.{Expr}
 use Rattle.pub_catalog.specs.Catalogs.{CatalogOf}
 use Rattle.pub_reader.specs.Statements.{catalog_by}
 use Rattle.publisher_desk.specs.Seats.{SeatOf, empty_seat}
-use Rattle.senders.specs.CloseCauses.{CanCome, RefusedClose}
+use Rattle.publisher_desk.specs.Viewers.{ClosingOf}
+use Rattle.senders.specs.CloseReasons.{RefusedClose}
 use Rattle.senders.specs.Closing.{IsClosed}
 use Rattle.senders.specs.declared.close_error.CloseError.{CloseError}
 use Rattle.senders.specs.Results.{ServedOf}
@@ -44,12 +45,13 @@ module _ (checked : CheckedOf) (limit : ℕ) (seat : SeatOf) where
   -- The last line: the publisher was closed with the session's seat, one of 1,000, and with the results of the
   -- connections, each of which was served to its end; or why it was not.
   pub data IsLastLine : List ℕ → Status → Type 0 where
-    Closed : (served : List ServedOf) (book : Book) → All (WasServed checked) served
-        → IsClosed checked limit (seat ∷ []) served book
+    Closed : (served : List ServedOf) (closing : ClosingOf) (book : Book) → All (WasServed checked) served
+        → IsClosed checked limit closing (seat ∷ []) served book
         → IsLastLine (closed_line (length (book_log book)) (length served)) Done
-    Differs : (served : List ServedOf) (error : CloseError) (name : List ℕ) → All (WasServed checked) served
-        → RefusedClose checked limit 1000 999 (seat ∷ []) served error → CanCome error → name_of error ≡ Some name
-        → IsLastLine (codes "close " ++ name) Refused
+    Differs : (served : List ServedOf) (closing : ClosingOf) (error : CloseError) (name : List ℕ)
+        → All (WasServed checked) served
+        → RefusedClose checked limit 1000 999 closing (seat ∷ []) served error
+        → name_of error ≡ Some name → IsLastLine (codes "close " ++ name) Refused
 
   -- whatever name the error has, the line with it is a last line
   abbrev pub IsLastLineOf : CloseError → Type 0

@@ -6,7 +6,8 @@ use Rattle.shard_checker.specs.CheckedView.{CheckedOf}
 use Rattle.table_changes.specs.Commands.{Command}
 use Rattle.tables_log.specs.declared.book.Book.{Book}
 use Rattle.publisher_desk.specs.Seats.{SeatOf, empty_seat}
-use Rattle.senders.specs.CloseCauses.{CanCome, RefusedClose}
+use Rattle.publisher_desk.specs.Viewers.{ClosingOf}
+use Rattle.senders.specs.CloseReasons.{RefusedClose}
 use Rattle.senders.specs.Closing.{IsClosed}
 use Rattle.senders.specs.declared.close_error.CloseError.{CloseError}
 use Rattle.senders.specs.declared.close_error.CloseError.TheVariants as e
@@ -73,12 +74,13 @@ pub record IsOver (service : ServiceOf) (seat : SeatOf) (served : List ServedOf)
 -- The last line: the publisher was closed with the session's seat, one of 1,000, and the results of the connections; or
 -- why it was not. The session has as many notes as the log has commits.
 pub data IsLast (service : ServiceOf) : List ℕ → Status → Type 0 where
-  Closed : (seat : SeatOf) (served : List ServedOf) (book : Book) → IsOver service seat served
-      → IsClosed service.checked service.limit (seat ∷ []) served book
+  Closed : (seat : SeatOf) (served : List ServedOf) (closing : ClosingOf) (book : Book) → IsOver service seat served
+      → IsClosed service.checked service.limit closing (seat ∷ []) served book
       → IsLast service (closed_line (length seat.notes) (length served)) Done
-  Differs : (seat : SeatOf) (served : List ServedOf) (error : CloseError) (name : List ℕ)
-      → IsOver service seat served → RefusedClose service.checked service.limit 1000 999 (seat ∷ []) served error
-      → CanCome error → name_of error ≡ Some name → IsLast service (codes "close " ++ name) Refused
+  Differs : (seat : SeatOf) (served : List ServedOf) (closing : ClosingOf) (error : CloseError) (name : List ℕ)
+      → IsOver service seat served
+      → RefusedClose service.checked service.limit 1000 999 closing (seat ∷ []) served error
+      → name_of error ≡ Some name → IsLast service (codes "close " ++ name) Refused
 
 -- whatever name the error has, the line with it is a last line
 abbrev pub IsLastOf : ServiceOf → CloseError → Type 0

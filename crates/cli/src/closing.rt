@@ -108,7 +108,7 @@ pub fn close_and_tell<'a, P: Publishing, W: Writer, R: Eprint>(
     rt: &R,
     alloc: Global,
     publisher: Publisher<P>,
-    rest: Seats<P>,
+    mut rest: Seats<P>,
     seat: Seat<P>,
     served: Vec<Served<P>>,
     writer: &mut W,
@@ -120,7 +120,8 @@ pub fn close_and_tell<'a, P: Publishing, W: Writer, R: Eprint>(
 {
     let seats = vec![in alloc; seat]?;
     let checked = Arc::try_clone(publisher.checked())?;
-    match close(publisher, rest, seats, served) {
+    let mut closing = publisher.into_closing();
+    match close(&mut closing, &mut rest, seats, served) {
         Ok(closed) => {
             tell_unserved(rt, alloc, checked.catalog(), &closed);
             say_closed(alloc, closed.book.log_len(), closed.served.len(), writer)

@@ -375,7 +375,7 @@ module _ (checked : CheckedOf) (known : BooksOf) (bytes piece : List ℕ) (old n
   by_piece slot (Err fault.Closed) left = by_all slot left
 
 pub statuses_confirm : StatusesConfirm
-statuses_confirm checked known bytes piece old new before after sent result has is_for left slot =
+statuses_confirm checked known bytes piece old new before after sent result has left slot =
     let hears : HearsPiece old new before after piece sent result =
     subst (λ p. HearLeaves p old new before after piece sent result) has.phase_is left in
     by_piece checked known bytes piece old new before after sent has slot result hears.leaves

@@ -63,9 +63,10 @@ pub record IsBeginning (log transactions : List Transaction) : Type 0 where
   pub later : List Transaction
   pub log_is : log ≡ transactions ++ later
 
--- the book is of the checked catalog, and is one of those that the publisher has had
+-- the book is of the checked catalog, with a slot for each subscription, and is one of those that the publisher has had
 pub record IsBookFor (checked : CheckedOf) (known : BooksOf) (book : Book) : Type 0 where
   pub named : book_checked book ≡ checked
+  pub each : length (book_slots book) ≡ length checked.catalog.subscriptions
   pub transactions : List Transaction
   pub stands : StandsFor book transactions
   pub begins : IsBeginning known.log transactions
@@ -257,6 +258,5 @@ pub data ConfirmsAs (frames : List Frame) (started : Option (ℕ × ℕ)) (befor
 abbrev pub StatusesConfirm : Type 0
 StatusesConfirm = (checked : CheckedOf) (known : BooksOf) (bytes piece : List ℕ) (old new : Ear)
     (before after : Book) (sent : ℕ) (result : Result Heard LinkFault)
-    → HasHeard checked known bytes old → IsBookFor checked known before
-    → HearLeaves (ear_phase old) old new before after piece sent result → (slot : ℕ)
+    → HasHeard checked known bytes old → HearLeaves (ear_phase old) old new before after piece sent result → (slot : ℕ)
     → ConfirmsAs (frames_in (bytes ++ piece)) (ear_started new) (book_slots before) (book_slots after) slot

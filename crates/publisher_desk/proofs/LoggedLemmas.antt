@@ -14,7 +14,7 @@ use Rattle.tables_log.specs.declared.book.Book.{Book}
 use Rattle.tables_log.specs.declared.error.CommitError.{CommitError}
 use Rattle.tables_log.proofs.StandLemmas.{each_is_logged, commits_add_one}
 use Rattle.publisher_desk.specs.Answers.{IsRead, IsRefusedAfter}
-use Rattle.publisher_desk.specs.Logged.{StandsIn, IsReadIn, IsNoted, AreNoted, own_numbers, RiseTo, IsSighted, IsSeatIn, AreLogged, IsHistoryOf, IsLogOfSeats, Records, Looks, Refuses, IsRefused}
+use Rattle.publisher_desk.specs.Logged.{StandsIn, IsReadIn, IsNoted, AreNoted, own_numbers, RiseTo, IsSighted, IsSeatIn, AreLogged, IsHistoryOf, AreSeatsIn, Records, Looks, Refuses, IsRefused}
 use Rattle.publisher_desk.specs.Receipts.{ReceiptOf, transaction_of, transactions_of}
 use Rattle.publisher_desk.specs.Seats.{SeatOf, note_number, highest}
 use Rattle.publisher_desk.specs.Sights.{HasWholeLog, Sees, StartsWith, sight, times, view_of}
@@ -341,10 +341,9 @@ more_logged setting log lent notes seats all one lent_is all_is sighted rest =
       once = λ n. let sum = logged.once n in let mine = ap (times n) sighted.own in omega (arith, sum, mine);
     })
 
-pub logged_seats : (checked : CheckedOf) (book : Book) (history : HistoryView) (seats : List SeatOf)
-    → IsHistoryOf book history → AreLogged (setting_in checked) history seats → IsLogOfSeats checked history.all seats book
-logged_seats checked book history seats is logged = record {
-  stands = is.stands;
+pub seats_in : (setting : Setting) (history : HistoryView) (seats : List SeatOf) → AreLogged setting history seats
+    → AreSeatsIn setting history.all seats
+seats_in setting history seats logged = record {
   each = logged.each;
   once = λ n. let sum = logged.once n in omega (arith, sum);
 }

@@ -1,5 +1,5 @@
 -- What a connection does with the slots keeps what the lock holds, and what it then knows.
-use Rattle.std.proofs.Common.{◌≡◌, ℕ, ◌+◌, List, [], ◌∷◌, ◌++◌, Bool, true, false, refl, sym, ap, ◌∙◌, subst, append-nil, cond, eq-eqb, length, arith}
+use Rattle.std.proofs.Common.{◌≡◌, ℕ, ◌+◌, List, [], ◌∷◌, ◌++◌, Bool, true, false, refl, sym, ap, ◌∙◌, subst, append-nil, append_assoc, cond, eq-eqb, length, arith}
 use Rattle.std.specs.Prelude.{Option, Some, None}
 use Rattle.shard_checker.specs.CheckedView.{CheckedOf, setting_in}
 use Rattle.table_changes.specs.Tables.{no_rows}
@@ -104,6 +104,12 @@ begins_same events = ([], sym (append-nil events))
 
 pub sees_more_log : (log : List ReceiptOf) (old new : Sight) → Sees log old new → StartsWith new.seen old.seen
 sees_more_log log old new sees = (sees.begins.0, sees.seen ∙ sees.begins.1)
+
+pub starts_then : (all some few : List ReceiptOf) → StartsWith all some → StartsWith some few → StartsWith all few
+starts_then all some few first second = (
+  second.0 ++ first.0,
+  first.1 ∙ ap (λ (list : List ReceiptOf). list ++ first.0) second.1 ∙ append_assoc few second.0 first.0,
+)
 
 pub sees_more_events : (all : List SlotEvent) (was now : SlotSight) → SeesEvents all was now
     → BeginsWith now.events was.events
@@ -234,6 +240,7 @@ module _ {U A : Type 0}
         ∙ streamed.log_is;
     events = streamed.events;
     used = streamed.used;
+    each = streamed.each;
     number_is = streamed.number_is;
     events_are = ap (λ (v : ViewerOf). v.events) later_is
         ∙ events_changed streamed.acquired streamed.events was now streamed.changes;

@@ -65,4 +65,4 @@ pub record IsClosingFor (checked : CheckedOf) (limit : ℕ) (book : Book) (total
   pub is : IsBookOf checked limit book
   pub counted : length (book_log book) ≡ total
   pub history_is : IsHistoryOf book history
-  pub idle : events ≡ slot_view true events.all []
+  pub events_are : AreEventsOf book events

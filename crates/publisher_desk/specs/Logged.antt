@@ -87,12 +87,10 @@ pub record IsHistoryOf (book : Book) (history : HistoryView) : Type 0 where
   pub stands : StandsFor book (transactions_of history.all)
   pub idle : history ≡ view_of true history.all []
 
--- The book is of the transactions of this log, of which each of these seats has seen a beginning, and in which all of
--- their receipts are at their numbers, which rise in each seat and of which no two are equal. Each reading is right by
--- the log's beginning.
-pub record IsLogOfSeats (checked : CheckedOf) (log : List ReceiptOf) (seats : List SeatOf) (book : Book) : Type 0 where
-  pub stands : StandsFor book (transactions_of log)
-  pub each : All (IsSeatIn (setting_in checked) log) seats
+-- Each of these seats has seen a beginning of this log, in which all of their receipts are at their numbers, which rise
+-- in each seat and of which no two are equal. Each reading is right by the log's beginning.
+pub record AreSeatsIn (setting : Setting) (log : List ReceiptOf) (seats : List SeatOf) : Type 0 where
+  pub each : All (IsSeatIn setting log) seats
   pub once : (n : ℕ) → drawn_by n seats ≤ 1
 
 -- ---- calls

@@ -8,6 +8,7 @@ use Rattle.tables_log.specs.Commits.{CommitOf}
 use Rattle.tables_log.specs.Slots.{AreInUse}
 use Rattle.tables_log.specs.StandsFor.{AreAccepted, entries_from}
 use Rattle.tables_log.specs.declared.book.Book.{Book}
+use Rattle.tables_log.specs.declared.slots.Slot.{Slot}
 use Rattle.publisher_desk.specs.Lending.{IsLent}
 use Rattle.publisher_desk.specs.Receipts.{ReceiptOf, transactions_of}
 use Rattle.publisher_desk.specs.Sights.{Sees, StartsWith}
@@ -57,8 +58,9 @@ abbrev pub held_with : Option Acquisition → ℕ → Option Hold → Option Hol
 held_with None number held = held
 held_with (Some one) number held = Some (hold one number)
 
--- The connection was lent a book of the log that it has then seen. Before it used the book, the slots in use were those
--- after these events. If it acquired a slot, this was the acquisition of this number.
+-- The connection was lent a book of the log that it has then seen, with a slot for each subscription. Before it used
+-- the book, the slots in use were those after these events. If it acquired a slot, this was the acquisition of this
+-- number.
 pub record IsUsed {U A : Type 0}
     (did : U → U → Book → Book → List ConnectionState → List ConnectionState → ℕ → Option Acquisition → A → Type 0)
     (checked : CheckedOf) (old new : ViewerOf) (before after : U) (answer : A) : Type 0 where
@@ -69,6 +71,7 @@ pub record IsUsed {U A : Type 0}
   pub log_is : transactions_of new.seen ≡ lent.transactions
   pub events : List SlotEvent
   pub used : AreInUse (use_after events) (book_slots lent.old)
+  pub each : length (book_slots lent.old) ≡ length checked.catalog.subscriptions
   pub number_is : number ≡ acquisitions events + 1
   pub events_are : new.events ≡ events_with acquired events
   pub held_is : new.held ≡ held_with acquired number old.held
@@ -116,12 +119,13 @@ pub record HasReleased (old new : ViewerOf) : Type 0 where
 
 -- ---- a publisher that is being closed
 
--- its log, as receipts, and the events of its slots
+-- its log, as receipts, and its slots with their events
 pub record ClosingOf : Type 0 where
   pub log : List ReceiptOf
   pub events : List SlotEvent
+  pub slots : List Slot
 
--- What the connection has seen is a beginning of these, and its slot is still its own.
+-- What the connection has seen is a beginning of the log and of the events.
 pub record IsSeenIn (closing : ClosingOf) (viewer : ViewerOf) : Type 0 where
   pub log : StartsWith closing.log viewer.seen
   pub slots : BeginsWith closing.events viewer.events
@@ -144,6 +148,11 @@ pub record SeesLog (checked : CheckedOf) (old new : Sight) : Type 0 where
   pub sees : Sees log old new
   pub accepted : IsAcceptedLog checked log
 
+-- It has then seen all events of the slots.
+pub record SeesSlots (was now : SlotSight) : Type 0 where
+  pub events : List SlotEvent
+  pub sees : SeesEvents events was now
+
 -- It has then seen all events, the last of which is this release.
 pub record Releases (slot commits : ℕ) (was now : SlotSight) : Type 0 where
   pub events : List SlotEvent
@@ -154,7 +163,7 @@ abbrev pub ChangesSight : Option Acquisition → List SlotEvent → SlotSight �
 ChangesSight None events was now = SeesEvents events was now
 ChangesSight (Some one) events was now = AddsEvent events (Acquired one) was now
 
--- What was lent is of a log that the connection has then seen.
+-- What was lent is of a log that the connection has then seen, with a slot for each subscription.
 pub record IsStreamed {U A : Type 0}
     (did : U → U → Book → Book → List ConnectionState → List ConnectionState → ℕ → Option Acquisition → A → Type 0)
     (checked : CheckedOf) (before after : U) (old new : Sight) (was now : SlotSight) (answer : A) : Type 0 where
@@ -167,6 +176,7 @@ pub record IsStreamed {U A : Type 0}
   pub log_is : transactions_of log ≡ lent.transactions
   pub events : List SlotEvent
   pub used : AreInUse (use_after events) (book_slots lent.old)
+  pub each : length (book_slots lent.old) ≡ length checked.catalog.subscriptions
   pub number_is : number ≡ acquisitions events + 1
   pub changes : ChangesSight acquired events was now
 

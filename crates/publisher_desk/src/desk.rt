@@ -155,8 +155,8 @@ impl<P: Publishing> Desk<P> {
     ghost use Rattle.publisher_desk.specs.Receipts.{receipt_of};
     ghost use Rattle.publisher_desk.specs.Refusals.{HasFault};
     ghost use Rattle.publisher_desk.specs.Sights.{StartsWith, sight_of, view_of};
-    ghost use Rattle.publisher_desk.specs.SlotSights.{slot_sight_of, slot_view};
-    ghost use Rattle.publisher_desk.specs.Viewers.{Holds, IsShown, IsStreamedIf, Releases, SeesLog};
+    ghost use Rattle.publisher_desk.specs.SlotSights.{BeginsWith, slot_sight_of, slot_view};
+    ghost use Rattle.publisher_desk.specs.Viewers.{Holds, IsShown, IsStreamedIf, Releases, SeesLog, SeesSlots};
 
     /// A book without commits, of which nothing was sent.
     pub(crate) fn new(
@@ -405,6 +405,7 @@ impl<P: Publishing> Desk<P> {
             (slot_sight_of slots.old) (slot_sight_of slots.new) result }
     {
         let number = self.slots.next_number()?;
+        self.book.has_each_slot();
         let (answer, acquired) = user.use_stream(
             &mut self.book,
             self.connections.as_mut_slice(),
@@ -438,7 +439,7 @@ impl<P: Publishing> Desk<P> {
         self.slots.release(slots, Release { slot, commits });
     }
 
-    /// Shows a connection the log, of which what another has seen is a beginning.
+    /// Shows a connection the log, of which what another token has seen is a beginning.
     pub(crate) fn compare(
         &mut self,
         token: &mut Option<HistoryToken<P>>,
@@ -453,6 +454,21 @@ impl<P: Publishing> Desk<P> {
         self.history.look(token);
     }
 
+    /// Shows a connection the events of the slots, of which those that another has seen are the first.
+    pub(crate) fn compare_slots(
+        &mut self,
+        slots: &mut Option<SlotToken<P>>,
+        other: &mut Option<SlotToken<P>>,
+    )
+        ensures log { self.new ≡ self.old }
+        ensures seen { SeesSlots (slot_sight_of slots.old) (slot_sight_of slots.new) }
+        ensures begins { BeginsWith (slot_sight_of slots.new).events (slot_sight_of other.old).events }
+        ensures same { slot_sight_of other.new ≡ slot_sight_of other.old }
+    {
+        self.slots.compare(other);
+        self.slots.look(slots);
+    }
+
     /// There will be no further commit.
     pub(crate) fn finish(&mut self)
         ensures { self.new ≡ self.old }
@@ -460,17 +476,20 @@ impl<P: Publishing> Desk<P> {
         self.is_finished = true;
     }
 
-    /// The book and the histories, without the lock.
-    pub(crate) fn into_closing(self) -> Closing<P> {
+    /// The book and the histories, without the lock. The catalog is the one that the publisher was made from.
+    pub(crate) fn into_closing(self, alloc: Global, checked: Arc<Checked, Global>) -> Closing<P>
+        requires { checked_view (arc_value checked) ≡ P.checked }
+    {
         let Desk {
             book,
             counted,
-            connections: _,
-            is_finished: _,
             history,
             slots,
+            ..
         } = self;
         Closing {
+            alloc,
+            checked,
             book,
             counted,
             history,

@@ -69,6 +69,7 @@ impl<P: Publishing> Publisher<P> {
     ghost use Rattle.publisher_desk.specs.Refusals.{HasFault, HasReadFault};
     ghost use Rattle.publisher_desk.specs.Seats.{AreUpTo, receipts};
     ghost use Rattle.publisher_desk.specs.Sights.{StartsWith};
+    ghost use Rattle.publisher_desk.specs.SlotSights.{BeginsWith};
     ghost use Rattle.publisher_desk.specs.Viewers.{HasReleased, Holds, IsUsedIf, SeesMore, log_seen};
     ghost use Rattle.publisher_desk.specs.declared.note.Note.TheVariants.{Committed, Looked};
 
@@ -352,8 +353,8 @@ impl<P: Publishing> Publisher<P> {
         answer
     }
 
-    /// Releases the slot that the connection has: from now on another may acquire it. The connection has then seen the
-    /// log as it was at the release.
+    /// Releases the slot that the connection has: from now on another may acquire it. The release has the number of
+    /// commits that the connection has then seen, which is never above that of the log.
     pub fn release<R: Wait>(&self, rt: &R, viewer: &mut Viewer<P>, slot: SlotNumber)
         requires { Holds viewer.old.held slot }
         ensures released { HasReleased viewer.old viewer.new }
@@ -363,19 +364,40 @@ impl<P: Publishing> Publisher<P> {
         self.desk.lock(rt).release(token, slots, slot);
     }
 
-    /// Shows a viewer the log, of which what another has seen is a beginning.
+    /// Shows a viewer the log and the events of the slots. What another viewer has seen is a beginning of these. So of
+    /// any two viewers, one has seen all that the other has seen.
     pub fn compare<R: Wait>(&self, rt: &R, viewer: &mut Viewer<P>, other: &mut Viewer<P>)
         ensures begins { StartsWith viewer.new.seen other.old.seen }
+        ensures events { BeginsWith viewer.new.events other.old.events }
         ensures more { SeesMore viewer.old viewer.new }
         ensures held { viewer.new.held ≡ viewer.old.held }
         ensures other { other.new ≡ other.old }
     {
-        let Viewer { token, slots: _ } = viewer;
+        let Viewer { token, slots } = viewer;
         let Viewer {
             token: known,
-            slots: _,
+            slots: theirs,
         } = other;
-        self.desk.lock(rt).compare(token, known);
+        let mut desk = self.desk.lock(rt);
+        desk.compare(token, known);
+        desk.compare_slots(slots, theirs);
+    }
+
+    /// Shows a viewer and a seat the log, of which what the other has seen is a beginning. So the two have seen the
+    /// same log, and so have any two seats. What the seat answers from then on counts what the viewer had seen.
+    pub fn compare_seat<R: Wait>(&self, rt: &R, viewer: &mut Viewer<P>, seat: &mut Seat<P>)
+        ensures begins { StartsWith viewer.new.seen seat.old.seen }
+        ensures back { StartsWith seat.new.seen viewer.old.seen }
+        ensures more { SeesMore viewer.old viewer.new }
+        ensures held { viewer.new.held ≡ viewer.old.held }
+        ensures same { seat.new.notes ≡ seat.old.notes }
+        ensures kept { StartsWith seat.new.seen seat.old.seen }
+    {
+        let Viewer { token, slots: _ } = viewer;
+        let Seat { token: known, .. } = seat;
+        let mut desk = self.desk.lock(rt);
+        desk.compare(token, known);
+        desk.compare(known, token);
     }
 
     /// There will be no further commit: senders end when they have sent all.
@@ -387,12 +409,12 @@ impl<P: Publishing> Publisher<P> {
     /// The publisher without its lock, when the sessions and the connections are over.
     pub fn into_closing(self) -> Closing<P> {
         let Publisher {
-            alloc: _,
-            checked: _,
+            alloc,
+            checked,
             desk,
             moved: _,
             is_batched: _,
         } = self;
-        desk.into_inner().into_closing()
+        desk.into_inner().into_closing(alloc, checked)
     }
 }

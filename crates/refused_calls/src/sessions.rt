@@ -39,13 +39,14 @@ pub fn commit_first<P: Publishing, R: Wait>(
 pub fn check_closes<P: Publishing>(
     alloc: Global,
     publisher: Publisher<P>,
-    rest: Seats<P>,
+    mut rest: Seats<P>,
     seat: Seat<P>,
     served: Vec<Served<P>>,
 ) -> Result<()> {
     let mut seats = Vec::new(alloc);
     seats.push(seat)?;
-    let closed = close(publisher, rest, seats, served)?;
+    let mut closing = publisher.into_closing();
+    let closed = close(&mut closing, &mut rest, seats, served)?;
     check_book(alloc, &closed.book, COMMITS)
 }
 

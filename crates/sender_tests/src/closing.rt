@@ -191,7 +191,8 @@ pub(crate) fn expect_answer<P: Publishing + Sync, R: Threads + Wait + Clock + Ab
     for step in steps {
         take(rt, alloc, &publisher, &mut seats, &mut served, *step)?;
     }
-    let answer = close(publisher, free, seats, served).err();
+    let mut closing = publisher.into_closing();
+    let answer = close(&mut closing, &mut free, seats, served).err();
     same(rt, (steps, answer), case);
     Ok(())
 }

@@ -95,11 +95,12 @@ pub(crate) fn expect_closed<P: Publishing>(
     rt: &impl Abort,
     board: &Board,
     publisher: Publisher<P>,
-    rest: Seats<P>,
+    mut rest: Seats<P>,
     seats: Vec<Seat<P>>,
     served: Vec<Served<P>>,
 ) -> Result<(), Fail> {
-    let closed = close(publisher, rest, seats, served)?;
+    let mut closing = publisher.into_closing();
+    let closed = close(&mut closing, &mut rest, seats, served)?;
     same(rt, closed.book.log_len() as usize, board.work.commits());
     same(rt, count_all(closed.seats.as_slice()), board.work.commits());
     same(rt, closed.served.len(), board.work.slots());

@@ -95,7 +95,8 @@ pub(crate) fn expect_size<P: Publishing + Sync, R: Threads + Wait + Clock + Abor
     let served = connections(rt, alloc, &publisher, commits)?;
     let count_served = served.len();
     let held = if commits % 2 == 1 { free.seat() } else { None };
-    let closed = close(publisher, free, seats, served)?;
+    let mut closing = publisher.into_closing();
+    let closed = close(&mut closing, &mut free, seats, served)?;
     drop(held);
     same(
         rt,

@@ -136,7 +136,8 @@ pub(crate) fn expect_talk<P: Publishing + Sync, R: Threads + Wait + Clock + Abor
         let mut served = expect_round(rt, alloc, &publisher, &mut seats, *round)?;
         all.append(&mut served)?;
     }
-    let closed = close(publisher, free, seats, all)?;
+    let mut closing = publisher.into_closing();
+    let closed = close(&mut closing, &mut free, seats, all)?;
     same(rt, closed.book.log_len(), 4);
     let confirmed = (closed.book.confirmed(0), closed.book.confirmed(1));
     same(rt, confirmed, (128, 320));

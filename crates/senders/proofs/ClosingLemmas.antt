@@ -1,5 +1,5 @@
 -- What is compared, put together.
-use Rattle.std.proofs.Common.{◌≡◌, ◌≢◌, Bor, ℕ, ◌+◌, List, [], ◌∷◌, length, map, get_or, refl, sym, ◌∙◌, ap, subst, arith, ltb, length-append}
+use Rattle.std.proofs.Common.{◌≡◌, ◌≢◌, Bor, ℕ, ◌+◌, ◌<◌, List, [], ◌∷◌, length, map, refl, sym, ◌∙◌, ap, subst, arith, ltb, length-append}
 use Rattle.std.proofs.lemmas.Bool.{ltb-true, ltb-false}
 use Rattle.std.proofs.lemmas.List.{length-map}
 use Rattle.filter_tree.proofs.Tests.{by_test}
@@ -18,29 +18,32 @@ use Rattle.tables_log.specs.StandsFor.{StandsFor, AreAccepted, entries_from}
 use Rattle.tables_log.specs.declared.book.Book.{Book}
 use Rattle.tables_log.specs.declared.slots.Slot.{Slot}
 use Rattle.tables_log.proofs.SlotUses.{confirmed_uses}
-use Rattle.tables_log.proofs.StandLemmas.{slots_keep_it}
+use Rattle.tables_log.proofs.StandLemmas.{each_is_logged, slots_keep_it}
+use Rattle.tables_log.specs.Routes.{commit_in}
+use Rattle.publisher_desk.proofs.LoggedLemmas.{length_transactions}
 use Rattle.publisher_desk.specs.Counting.{total_receipts, IsCounted}
-use Rattle.publisher_desk.specs.Held.{IsBookOf}
 use Rattle.publisher_desk.specs.Receipts.{ReceiptOf, transactions_of}
 use Rattle.publisher_desk.specs.Seats.{SeatOf, receipts, IsForwardSeat, IsTimedSeat}
 use Rattle.publisher_desk.specs.declared.note.Note.{Note}
 use Rattle.publisher_desk.specs.declared.note.Note.TheVariants.{Committed, Looked}
 use Rattle.publisher_desk.specs.declared.note.Reading.{Reading}
-use Rattle.senders.specs.CloseCauses.{IsMissing, IsRepeated, IsNotLogged, IsExplainedBy, HasWrongReading, HasOtherTaken, IsCloseCause, IsHeldBack, RefusedClose}
+use Rattle.senders.specs.CloseCauses.{CanCome, HasOtherTaken, HasWrongReading, IsCloseCause, IsExplainedBy, IsMissing, IsNotLogged, IsRepeated}
+use Rattle.senders.specs.CloseReasons.{IsReasonToRefuse, RefusedClose}
 use Rattle.senders.specs.Closing.{IsClosed}
-use Rattle.publisher_desk.specs.Logged.{RiseTo}
-use Rattle.publisher_desk.specs.Sights.{StartsWith}
-use Rattle.publisher_desk.specs.SlotEvents.{no_use}
+use Rattle.publisher_desk.specs.Logged.{AreSeatsIn, RiseTo}
+use Rattle.publisher_desk.specs.SlotEvents.{acquisitions, no_use}
+use Rattle.publisher_desk.specs.Viewers.{ClosingOf, IsSeenIn, log_seen}
 use Rattle.senders.specs.Gathering.{receipts_in, all_receipts, all_readings, numbers_of, IsRisingSeat}
-use Rattle.senders.specs.Histories.{AreInOrder, AreWitnessed, IsRight}
-use Rattle.senders.specs.Replays.{Replays, IsAsLong, IsUnlikeIn}
-use Rattle.senders.specs.Reached.{IsOrder}
+use Rattle.senders.specs.Histories.{AreInOrder, AreWitnessed, IsLogOfSeats, IsRight}
+use Rattle.senders.specs.Replays.{IsAsLong, IsConfirmedAs, IsUnlikeIn, Replays}
+use Rattle.senders.specs.Reached.{AreReached, IsOrder, LacksConnection}
 use Rattle.senders.specs.Results.{ServedOf}
 use Rattle.senders.specs.Starts.{AreInTime, IsStartCause}
 use Rattle.senders.specs.TakenCommits.{IsTaken, IsWhole}
 use Rattle.senders.specs.declared.close_error.CloseError.{CloseError}
 use Rattle.senders.specs.declared.close_error.CloseError.TheVariants as f
-use Rattle.senders.proofs.LoggedLemmas.{long as logged_long, order_begins, order_logged}
+use Rattle.senders.proofs.KeptConfirmed.{none_in_use}
+use Rattle.senders.proofs.LoggedLemmas.{can_come, explained_count, long as logged_long, order_logged}
 use Rattle.senders.proofs.NumberLemmas.{rise_is_range}
 use Rattle.senders.proofs.ReplayLemmas.{replays_all}
 use Rattle.senders.proofs.TakenLemmas.{had_all, not_taken, taken_all}
@@ -172,7 +175,7 @@ module _ (book fresh : Book) (seats : List SeatOf) (order : List ReceiptOf) (ord
       other = not_taken (book_log book) served short;
     }
 
-    module _ (told : AreWitnessed (book_checked book) acquired seats served book)
+    module _ (closing : ClosingOf) (told : AreWitnessed (book_checked book) closing acquired seats served book)
         (whole : All (IsWhole (book_log book)) served) where
       start_cause : (error : CloseError)
           → IsStartCause (length (book_checked book).catalog.subscriptions) acquired served error
@@ -186,14 +189,14 @@ module _ (book fresh : Book) (seats : List SeatOf) (order : List ReceiptOf) (ord
         order = order;
         explained = explained_by;
         right = right;
-        taken = taken_all book acquired seats served told whole;
+        taken = taken_all book closing acquired seats served told whole;
         missing = cause;
       }
       start_cause f.StartLate cause = record {
         order = order;
         explained = explained_by;
         right = right;
-        taken = taken_all book acquired seats served told whole;
+        taken = taken_all book closing acquired seats served told whole;
         starts = cause.starts;
         ordered = cause.ordered;
         late = cause.late;
@@ -201,37 +204,34 @@ module _ (book fresh : Book) (seats : List SeatOf) (order : List ReceiptOf) (ord
       start_cause f.OutOfMemory cause = tt
 
       is_closed : AreInTime (length (book_checked book).catalog.subscriptions) acquired served
-          → All IsForwardSeat seats → All IsTimedSeat seats
-          → IsClosed (book_checked book) (book_limit book) seats served fresh
-      is_closed times forward timed =
+          → All IsForwardSeat seats → All IsTimedSeat seats → (last : Book) → IsConfirmedAs closing.slots fresh last
+          → IsClosed (book_checked book) (book_limit book) closing seats served last
+      is_closed times forward timed last kept =
           let all : StandsFor fresh (transactions_of order) × (book_log fresh ≡ book_log book) =
           replays_all book fresh order replayed long count in
-          let log : List ReceiptOf = told.closing.log in
-          let same : order ≡ log =
-          order_logged (book_checked book) log book seats refl told.logged order ordered
-          (long.count ∙ logged_long (book_checked book) log book seats refl told.logged) in
+          let same : order ≡ closing.log =
+          order_logged (book_checked book) closing.log book seats refl told.logged order ordered
+          (long.count ∙ logged_long (book_checked book) closing.log book seats refl told.logged) in
           record {
-            named = replayed.named;
-            limited = replayed.limited;
-            order = order;
-            ordered = ordered;
-            begins = order_begins (book_checked book) log book seats refl told.logged order ordered long.count;
-            transactions = transactions_of order;
-            are = refl;
-            stands = all.0;
-            counted = count;
-            free = replayed.free;
-            right = right;
+            named = kept.changes.checked ∙ replayed.named;
+            limited = kept.changes.limit ∙ replayed.limited;
+            ordered = subst (AreInOrder seats) same ordered;
+            begins = λ place other below. (told.logged.each place other below).begins;
+            stands = slots_keep_it fresh last (book_slots last) kept.changes (transactions_of closing.log)
+                (subst (λ (log : List ReceiptOf). StandsFor fresh (transactions_of log)) same all.0);
+            counted = ap length kept.changes.log ∙ count ∙ ap length same;
+            free = kept.uses no_use
+                (none_in_use (book_slots fresh) (length (book_checked book).catalog.subscriptions) replayed.unused);
+            confirmed = kept.confirmed;
+            right = subst (λ (log : List ReceiptOf). All (IsRight (book_setting book) (transactions_of log))
+                (all_readings seats)) same right;
             forward = forward;
             timed = timed;
-            taken = subst (λ (entries : List CommitOf). All (IsTaken entries) served) (sym all.1)
-                (taken_all book acquired seats served told whole);
-            seen = λ place other below.
-                subst (λ (list : List ReceiptOf). StartsWith list (get_or served place other).viewer.seen) (sym same)
-                (told.seen place other below).log;
-            events = told.closing.events;
-            known = λ place other below. (told.seen place other below).slots;
-            had = had_all book acquired seats served told;
+            taken = subst (λ (entries : List CommitOf). All (IsTaken entries) served)
+                (sym (kept.changes.log ∙ all.1))
+                (taken_all book closing acquired seats served told whole);
+            seen = told.seen;
+            had = had_all book closing acquired seats served told;
             starts = times.starts;
             ordered_starts = subst (λ n. IsOrder n served times.starts) told.count times.ordered;
             reached = times.reached;
@@ -302,66 +302,39 @@ module _ (book fresh : Book) (seats : List SeatOf) (receipts seen : List (Bor Re
           seen_count seen_right acquired served short
 
       module _ (slots : ℕ) (slots_are : slots ≡ length (book_checked book).catalog.subscriptions)
-          (told : AreWitnessed (book_checked book) acquired seats served book)
-          (whole : All (IsWhole (book_log book)) served) where
+          (whole : All (IsWhole (book_log book)) served) (closing : ClosingOf)
+          (told : AreWitnessed (book_checked book) closing acquired seats served book) where
         pub start_compared : {A : Type 0} (result : Result A CloseError)
             → IfErr result (IsStartCause slots acquired served) → IfErr result (IsCloseCause book acquired seats served)
         unfolding seen_count seen_ordered seen_long seen_right
         start_compared (Ok done) cause = tt
         start_compared (Err error) cause =
             start_cause book fresh seats (map (λ (one : Bor ReceiptOf). one.now) seen) seen_ordered seen_long replayed
-            seen_count seen_right acquired served told whole error
+            seen_count seen_right acquired served closing told whole error
             (subst (λ n. IsStartCause n acquired served error) slots_are cause)
 
         pub closed_compared : {A : Type 0} (result : Result A CloseError)
             → OnOk result (AreInTime slots acquired served) → All IsForwardSeat seats → All IsTimedSeat seats
-            → OnOk result (IsClosed (book_checked book) (book_limit book) seats served fresh)
+            → OnOk result ((last : Book) → IsConfirmedAs closing.slots fresh last
+            → IsClosed (book_checked book) (book_limit book) closing seats served last)
         unfolding seen_count seen_ordered seen_long seen_right
         closed_compared (Ok done) times forward timed =
             is_closed book fresh seats (map (λ (one : Bor ReceiptOf). one.now) seen) seen_ordered seen_long replayed
-            seen_count seen_right acquired served told whole
+            seen_count seen_right acquired served closing told whole
             (subst (λ n. AreInTime n acquired served) slots_are times) forward timed
         closed_compared (Err error) times forward timed = tt
 
 -- ---- the closed book
 
-pub still_closed : (checked : CheckedOf) (limit : ℕ) (seats : List SeatOf) (served : List ServedOf)
-    (old new : Book) → ChangesSlots old new (book_slots new) → KeepsUse (book_slots old) (book_slots new)
-    → IsClosed checked limit seats served old → IsClosed checked limit seats served new
-still_closed checked limit seats served old new changes keeps closed = record {
-  named = changes.checked ∙ closed.named;
-  limited = changes.limit ∙ closed.limited;
-  order = closed.order;
-  ordered = closed.ordered;
-  begins = closed.begins;
-  transactions = closed.transactions;
-  are = closed.are;
-  stands = slots_keep_it old new (book_slots new) changes closed.transactions closed.stands;
-  counted = ap length changes.log ∙ closed.counted;
-  free = keeps no_use closed.free;
-  right = closed.right;
-  forward = closed.forward;
-  timed = closed.timed;
-  taken = subst (λ (log : List CommitOf). All (IsTaken log) served) (sym changes.log) closed.taken;
-  seen = closed.seen;
-  events = closed.events;
-  known = closed.known;
-  had = closed.had;
-  starts = closed.starts;
-  ordered_starts = closed.ordered_starts;
-  reached = closed.reached;
-}
-
-pub closed_as_named : (checked : CheckedOf) (limit : ℕ) (book fresh new : Book) (seats seen : List SeatOf)
-    (served told : List ServedOf) → IsBookOf checked limit book → seen ≡ seats → told ≡ served
-    → IsClosed (book_checked book) (book_limit book) seen told fresh → ChangesSlots fresh new (book_slots new)
-    → KeepsUse (book_slots fresh) (book_slots new) → IsClosed checked limit seats served new
-closed_as_named checked limit book fresh new seats seen served told is same alike closed changes keeps =
-    still_closed checked limit seats served fresh new changes keeps
-    (subst (λ (list : List SeatOf). IsClosed checked limit list served fresh) same
-    (subst (λ (list : List ServedOf). IsClosed checked limit seen list fresh) alike
-    (subst (λ (n : ℕ). IsClosed checked n seen told fresh) is.limited
-    (subst (λ (one : CheckedOf). IsClosed one (book_limit book) seen told fresh) is.named closed))))
+pub closed_as_named : (checked : CheckedOf) (limit : ℕ) (closing : ClosingOf) (book last : Book)
+    (seats seen : List SeatOf) (served told : List ServedOf) → book_checked book ≡ checked → book_limit book ≡ limit
+    → seen ≡ seats → told ≡ served → IsClosed (book_checked book) (book_limit book) closing seen told last
+    → IsClosed checked limit closing seats served last
+closed_as_named checked limit closing book last seats seen served told named limited same alike closed =
+    subst (λ (list : List SeatOf). IsClosed checked limit closing list served last) same
+    (subst (λ (list : List ServedOf). IsClosed checked limit closing seen list last) alike
+    (subst (λ (n : ℕ). IsClosed checked n closing seen told last) limited
+    (subst (λ (one : CheckedOf). IsClosed one (book_limit book) closing seen told last) named closed)))
 
 -- ---- refusals
 
@@ -377,50 +350,90 @@ all_counted (seat ∷ seats) =
     let rest = all_counted seats in let one = receipts_counted seat.notes in
     let both = length-append (receipts_in seat.notes) (all_receipts seats) in omega (arith, rest, one, both)
 
-held_back : (book : Book) (acquired all left : ℕ) (seats : List SeatOf) (served : List ServedOf) (error : CloseError)
-    → IsCounted all left seats (length (book_log book)) → IsCloseCause book acquired seats served error
-    → IsHeldBack all left seats error
-held_back book acquired all left seats served f.CountDiffers counted cause = by_test (ltb (left + length seats) all)
-    (λ less. ltb-true (left + length seats) all less)
-    (λ full. let least = ltb-false (left + length seats) all full in let few = counted.few in
-    absurd (cause (sym (counted.whole (omega (arith, least, few))) ∙ sym (all_counted seats))))
-held_back book acquired all left seats served f.ReceiptMissing counted cause = tt
-held_back book acquired all left seats served f.ReadingWrong counted cause = tt
-held_back book acquired all left seats served f.TakenDiffers counted cause = tt
-held_back book acquired all left seats served f.ConnectionMissing counted cause = tt
-held_back book acquired all left seats served f.StartLate counted cause = tt
-held_back book acquired all left seats served f.OutOfMemory counted cause = tt
+module _ (checked : CheckedOf) (limit all left : ℕ) (closing : ClosingOf) (seats : List SeatOf)
+    (served : List ServedOf) (book : Book) (named : book_checked book ≡ checked) (limited : book_limit book ≡ limit)
+    (stands : StandsFor book (transactions_of closing.log))
+    (counted : IsCounted all left seats (length closing.log))
+    (in_log : AreSeatsIn (setting_in checked) closing.log seats)
+    (seen : All (λ (one : ServedOf). IsSeenIn closing one.viewer) served) where
+  log_is : book_log book ≡ log_seen checked closing.log
+  log_is = stands.log
+      ∙ ap (λ (one : CheckedOf). entries_from (setting_in one) no_rows 1 (transactions_of closing.log)) named
 
-module _ (checked : CheckedOf) (limit all left : ℕ) (book : Book) (acquired : ℕ) (seats : List SeatOf)
-    (served : List ServedOf) (is : IsBookOf checked limit book)
-    (counted : IsCounted all left seats (length (book_log book)))
-    (told : AreWitnessed checked acquired seats served book) where
-  -- the cause by so many acquisitions is that by the events
-  by_events : (error : CloseError) → IsCloseCause book acquired seats served error → IsHeldBack all left seats error
-      → RefusedClose checked limit all left seats served error
-  by_events error cause held = record {
-    book = book;
-    events = told.closing.events;
-    known = λ place other below. (told.seen place other below).slots;
-    is = is;
+  long : length (book_log book) ≡ length closing.log
+  long = each_is_logged book (transactions_of closing.log) stands ∙ length_transactions closing.log
+
+  held_back : length (book_log book) ≢ length (all_receipts seats) → left + length seats < all
+  unfolding long
+  held_back apart = by_test (ltb (left + length seats) all)
+      (λ less. ltb-true (left + length seats) all less)
+      (λ full. let least = ltb-false (left + length seats) all full in let few = counted.few in
+      absurd (apart (long ∙ sym (counted.whole (omega (arith, least, few))) ∙ sym (all_counted seats))))
+
+  refused : (error : CloseError) → IsReasonToRefuse checked all left closing seats served error
+      → RefusedClose checked limit all left closing seats served error
+  unfolding long
+  refused error why = record {
+    accepted = subst (λ (one : CheckedOf). AreAccepted (setting_in one) no_rows (transactions_of closing.log)) named
+        stands.accepted;
+    room =
+        let items = length-map book.log.items commit_in in
+        omega (arith, long, limited, items, book.room);
     counted = counted;
-    cause = subst (λ (n : ℕ). IsCloseCause book n seats served error) told.count cause;
-    held_back = held;
+    logged = in_log;
+    seen = seen;
+    reason = why;
   }
 
-  pub refused_as_named : (seen : List SeatOf) (shown : List ServedOf) (error : CloseError) → seen ≡ seats
-      → shown ≡ served → IsCloseCause book acquired seen shown error
-      → RefusedClose checked limit all left seats served error
-  refused_as_named seen shown error same alike cause =
-      let why : IsCloseCause book acquired seats served error =
-      subst (λ (list : List SeatOf). IsCloseCause book acquired list served error) same
-      (subst (λ (list : List ServedOf). IsCloseCause book acquired seen list error) alike cause) in
-      by_events error why (held_back book acquired all left seats served error counted why)
+  module _ (acquired : ℕ) (acquired_is : acquired ≡ acquisitions closing.events) where
+    -- the reasons that the comparisons found, of which two cannot come
+    reason : (error : CloseError) → IsCloseCause book acquired seats served error → CanCome error
+        → IsReasonToRefuse checked all left closing seats served error
+    unfolding long log_is held_back
+    reason f.CountDiffers cause can = ((λ same. cause (long ∙ same)), held_back cause)
+    reason f.ReceiptMissing cause can = can
+    reason f.ReadingWrong cause can = can
+    reason f.TakenDiffers cause can = record {
+      count = sym long ∙ explained_count book seats cause.order cause.explained;
+      other = subst (λ (log : List CommitOf). ¬ All (IsTaken log) served) log_is cause.other;
+    }
+    reason f.ConnectionMissing cause can = record {
+      before = record {
+        count = sym long ∙ explained_count book seats cause.order cause.explained;
+        taken = subst (λ (log : List CommitOf). All (IsTaken log) served) log_is cause.taken;
+      };
+      missing = subst (λ (n : ℕ). LacksConnection n served) acquired_is cause.missing;
+    }
+    reason f.StartLate cause can = record {
+      before = record {
+        count = sym long ∙ explained_count book seats cause.order cause.explained;
+        taken = subst (λ (log : List CommitOf). All (IsTaken log) served) log_is cause.taken;
+      };
+      starts = cause.starts;
+      ordered = subst (λ (n : ℕ). IsOrder n served cause.starts) acquired_is cause.ordered;
+      late = subst (λ (one : CheckedOf). ¬ AreReached (length one.catalog.subscriptions) cause.starts) named
+          cause.late;
+    }
+    reason f.OutOfMemory cause can = tt
+
+    pub refused_as_named : (gathered : List SeatOf) (shown : List ServedOf) (error : CloseError) → gathered ≡ seats
+        → shown ≡ served → IsCloseCause book acquired gathered shown error
+        → RefusedClose checked limit all left closing seats served error
+    unfolding refused reason
+    refused_as_named gathered shown error same alike cause =
+        let its : IsCloseCause book acquired seats served error =
+        subst (λ (list : List SeatOf). IsCloseCause book acquired list served error) same
+        (subst (λ (list : List ServedOf). IsCloseCause book acquired gathered list error) alike cause) in
+        let logged : IsLogOfSeats checked closing.log seats book =
+        record { stands = stands; each = in_log.each; once = in_log.once } in
+        refused error
+        (reason error its (can_come checked closing.log book seats named logged acquired served error its))
 
   pub memory_refused : {A : Type 0} (result : Result A CloseError)
       → IsErrAnd result (λ error. error ≡ f.OutOfMemory)
-      → IfErr result (RefusedClose checked limit all left seats served)
+      → IfErr result (RefusedClose checked limit all left closing seats served)
+  unfolding refused
   memory_refused (Ok done) memory = tt
   memory_refused (Err error) memory =
-      subst (λ (other : CloseError). RefusedClose checked limit all left seats served other) (sym memory)
-      (by_events f.OutOfMemory tt tt)
+      subst (λ (other : CloseError). RefusedClose checked limit all left closing seats served other) (sym memory)
+      (refused f.OutOfMemory tt)

@@ -218,33 +218,34 @@ transactions_timed (receipt ∷ receipts) timed =
     (transactions_timed receipts (All-tail IsTimedReceipt receipt receipts timed))
 
 pub closed_are_explained : ClosedAreExplained
-closed_are_explained checked limit seats served book closed =
-    let order : List ReceiptOf = closed.order in
+closed_are_explained checked limit closing seats served book closed =
+    let order : List ReceiptOf = closing.log in
     let each : All IsTimedReceipt order =
     All-permutation IsTimedReceipt (all_receipts seats) order closed.ordered.all (all_timed seats closed.timed) in
-    let long : length closed.transactions ≡ length order = ap length closed.are ∙ length-map order transaction_of in
+    let long : length (transactions_of order) ≡ length order = length-map order transaction_of in
     let logged : length (book_log book) ≡ length book.log.items = length-map book.log.items commit_in in
     record {
-      accepted = subst (λ (c : CheckedOf). AreAccepted (setting_in c) no_rows closed.transactions) closed.named
+      accepted = subst (λ (c : CheckedOf). AreAccepted (setting_in c) no_rows (transactions_of order)) closed.named
           closed.stands.accepted;
-      timed = subst (λ (l : List Transaction). All IsTimedTransaction l) (sym closed.are)
-          (transactions_timed order each);
+      timed = transactions_timed order each;
       few = omega (arith, long, logged, closed.counted, book.room, book.within);
     }
 
 pub closed_tell_the_log : ClosedTellTheLog
-closed_tell_the_log checked limit seats served book closed one among known frames slot start at written failed is =
+closed_tell_the_log checked limit closing seats served book closed one among known frames slot start at written failed
+    is =
     let taken : IsTaken (book_log book) one = All-contains (IsTaken (book_log book)) served one closed.taken among in
-    served_are_first_parts checked book closed.transactions closed.named closed.stands known frames slot start
+    served_are_first_parts checked book (transactions_of closing.log) closed.named closed.stands known frames slot start
     one.taken written failed one.end is
     (subst (λ (o : Option ℕ). AreAt (book_log book) (commits_before (unwrap_or o 0)) one.taken) at taken.at)
 
 pub closed_are_followed : ClosedAreFollowed
-closed_are_followed checked limit seats served book closed one frames slot start written part old between new follows
-    at opens bytes rest is feeds =
+closed_are_followed checked limit closing seats served book closed one frames slot start written part old between new
+    follows at opens bytes rest is feeds =
     let view : CheckedOf = checked_view checked in
-    let explained = closed_are_explained view limit seats served book closed in
-    let first : AreFirst view closed.transactions slot start part.moves bytes (rest ++ part.others) =
+    let all : List Transaction = transactions_of closing.log in
+    let explained = closed_are_explained view limit closing seats served book closed in
+    let first : AreFirst view all slot start part.moves bytes (rest ++ part.others) =
     sym (append_assoc bytes rest part.others) ∙ ap (λ (l : List ℕ). l ++ part.others) is ∙ part.first in
-    clients_follow checked closed.transactions explained.accepted explained.timed explained.few slot start part.moves part.clocks old
+    clients_follow checked all explained.accepted explained.timed explained.few slot start part.moves part.clocks old
     between new follows at opens bytes (rest ++ part.others) first feeds

@@ -159,7 +159,7 @@ module _ (checked : CheckedOf) (was now : ViewerOf) (more : AreMore (books_seen 
   says_now bytes has (listening.Moves slot start started at further) some =
       by_status bytes slot at further
       (statuses_confirm checked known bytes (piece_of before) before.ear after.ear old new sent heard
-      (has_now bytes has.heard) is did.left slot)
+      (has_now bytes has.heard) did.left slot)
 
   pub confirms_of : (bytes : List ℕ) → HasListened checked was bytes before
       → SaysConfirmed (bytes ++ piece_of before) after
@@ -178,6 +178,7 @@ module _ (checked : CheckedOf) (was now : ViewerOf) (sees : SeesMore was now) (b
   abbrev book_was : IsBookFor checked (books_seen now) used.lent.old
   book_was = record {
     named = used.lent.named;
+    each = used.each;
     transactions = used.lent.transactions;
     stands = used.lent.stands;
     begins = record { later = []; log_is = used.log_is ∙ sym (append-nil used.lent.transactions) };

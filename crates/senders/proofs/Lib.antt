@@ -7,6 +7,7 @@ pub mod FollowingLemmas
 pub mod GatheringLemmas
 pub mod HearingLemmas
 pub mod HoldingLemmas
+pub mod KeptConfirmed
 pub mod LoggedLemmas
 pub mod MemoryLemmas
 pub mod NumberLemmas

@@ -1,6 +1,6 @@
 -- What the history of a publisher rules out: a receipt that is missing, and a reading that is wrong.
 use Rattle.std.proofs.Common.{◌≡◌, ℕ, zero, suc, ◌+◌, ◌<◌, ◌≤◌, List, [], ◌∷◌, ◌++◌, length, take, get_or, refl, sym, ◌∙◌, ap, subst, arith, ltb, length-append, append_assoc, cond, eqb, eq-eqb}
-use Rattle.std.specs.Prelude.{All, Result, Ok, Err, IfErr, IsErrAnd, Some, fold, slice_get}
+use Rattle.std.specs.Prelude.{All, Some, fold, slice_get}
 use Rattle.std.specs.List.{range_with_len, sum_by}
 use Rattle.std.specs.List.Sorted.{IsPermutation, IsNonDecreasingBy}
 use Rattle.std.proofs.Math.Seq.{take-append_seam}
@@ -16,22 +16,24 @@ use Rattle.table_changes.specs.Tables.{Tables, no_rows}
 use Rattle.table_changes.proofs.TableLemmas.{some_is}
 use Rattle.tables_log.specs.BookView.{book_checked, book_log, book_setting}
 use Rattle.tables_log.specs.Commits.{CommitOf, commit_of}
-use Rattle.tables_log.specs.StandsFor.{Transaction, IsAccepted, AreAccepted, after, entries_from, left_by}
+use Rattle.tables_log.specs.StandsFor.{Transaction, IsAccepted, AreAccepted, StandsFor, after, entries_from, left_by}
 use Rattle.tables_log.specs.declared.book.Book.{Book}
 use Rattle.tables_log.proofs.StandLemmas.{each_is_logged}
-use Rattle.publisher_desk.specs.Logged.{StandsIn, IsReadIn, AreNoted, own_numbers, drawn_by, IsLogOfSeats, IsSeatIn, RiseTo}
+use Rattle.publisher_desk.specs.Logged.{AreNoted, AreSeatsIn, IsReadIn, IsSeatIn, RiseTo, StandsIn, drawn_by, own_numbers}
 use Rattle.publisher_desk.specs.Receipts.{ReceiptOf, transaction_of, transactions_of}
 use Rattle.publisher_desk.specs.Seats.{SeatOf}
-use Rattle.publisher_desk.specs.Sights.{StartsWith, times}
+use Rattle.publisher_desk.specs.Sights.{times}
+use Rattle.publisher_desk.specs.SlotEvents.{acquisitions}
+use Rattle.publisher_desk.specs.Viewers.{ClosingOf, IsSeenIn}
 use Rattle.publisher_desk.specs.declared.note.Note.{Note}
 use Rattle.publisher_desk.specs.declared.note.Note.TheVariants.{Committed, Looked}
 use Rattle.publisher_desk.specs.declared.note.Reading.{Reading}
 use Rattle.publisher_desk.proofs.KeptLemmas.{times_append}
 use Rattle.publisher_desk.proofs.LoggedLemmas.{length_transactions, transactions_append}
-use Rattle.senders.specs.CloseCauses.{IsUnlike, IsRefusedThere, IsOtherThere, IsMissing, IsFalling, IsRepeated, IsNotLogged, HasWrongReading, IsCloseCause, CanCome}
+use Rattle.senders.specs.CloseCauses.{IsUnlike, IsRefusedThere, IsOtherThere, IsMissing, IsFalling, IsRepeated, IsNotLogged, HasWrongReading, IsExplainedBy, IsCloseCause, CanCome}
 use Rattle.senders.specs.Gathering.{receipts_in, readings_in, all_receipts, all_readings, numbers_of, IsRisingSeat}
-use Rattle.senders.specs.Histories.{AreInOrder, AreWitnessed, IsRight}
-use Rattle.senders.specs.Results.{ServedOf}
+use Rattle.senders.specs.Histories.{AreInOrder, AreWitnessed, IsLogOfSeats, IsRight}
+use Rattle.senders.specs.Results.{IsWitnessed, ServedOf}
 use Rattle.senders.specs.declared.close_error.CloseError.{CloseError}
 use Rattle.senders.specs.declared.close_error.CloseError.TheVariants as f
 
@@ -236,6 +238,19 @@ entry_is setting tables number (first ∷ order) (suc place) receipt at =
     ∙ ap (λ n. Some (commit_of n receipt.time (record_of setting (fold (left_by setting)
     (left_by setting tables (transaction_of first)) (transactions_of (take place order))) receipt.commands))) next
 
+-- as many entries as receipts
+each_entry : (setting : Setting) (tables : Tables) (number : ℕ) (order : List ReceiptOf)
+    → length (entries_from setting tables number (transactions_of order)) ≡ length order
+each_entry setting tables number [] = refl
+each_entry setting tables number (receipt ∷ order) =
+    ap suc (each_entry setting (left_by setting tables (transaction_of receipt)) (number + 1) order)
+
+pub explained_count : (book : Book) (seats : List SeatOf) (order : List ReceiptOf) → IsExplainedBy book seats order
+    → length (book_log book) ≡ length (all_receipts seats)
+explained_count book seats order explained =
+    ap length explained.logged ∙ each_entry (book_setting book) no_rows 1 order
+    ∙ length_permutation (all_receipts seats) order explained.ordered.all
+
 -- ---- no cause
 
 module _ (checked : CheckedOf) (log : List ReceiptOf) (book : Book) (seats : List SeatOf)
@@ -260,14 +275,6 @@ module _ (checked : CheckedOf) (log : List ReceiptOf) (book : Book) (seats : Lis
       subst (λ (n : ℕ). IsRisingSeat n seat) (sym long)
       (subst (λ (list : List ℕ). RiseTo (length log) 0 list) (numbers_are seat.notes)
       (logged.each place other low).rising)
-
-  -- what each seat has seen is a beginning of them
-  pub order_begins : (order : List ReceiptOf) → AreInOrder seats order → length order ≡ length (book_log book)
-      → All (λ (seat : SeatOf). StartsWith order seat.seen) seats
-  unfolding long order_logged
-  order_begins order ordered count place other low =
-      subst (λ (list : List ReceiptOf). StartsWith list (get_or seats place other).seen)
-      (sym (order_logged order ordered (count ∙ long))) (logged.each place other low).begins
 
   apart : (sorted : List ReceiptOf) → IsPermutation (all_receipts seats) sorted
       → IsNonDecreasingBy (λ (receipt : ReceiptOf). receipt.number) sorted
@@ -337,20 +344,10 @@ module _ (checked : CheckedOf) (log : List ReceiptOf) (book : Book) (seats : Lis
   unfolding long order_logged right
   not_wrong wrong =
       let size : length (book_log book) ≡ length wrong.order =
-      each_entry (book_setting book) no_rows 1 wrong.order (book_log book) wrong.explained.logged in
+      ap length wrong.explained.logged ∙ each_entry (book_setting book) no_rows 1 wrong.order in
       wrong.wrong (right wrong.order (order_logged wrong.order wrong.explained.ordered (omega (arith, size, long))))
-    where
-      each_entry : (setting : Setting) (tables : Tables) (number : ℕ) (order : List ReceiptOf) (log : List CommitOf)
-          → log ≡ entries_from setting tables number (transactions_of order) → length log ≡ length order
-      each_entry setting tables number order log same = ap length same ∙ counted setting tables number order
-        where
-          counted : (setting : Setting) (tables : Tables) (number : ℕ) (order : List ReceiptOf)
-              → length (entries_from setting tables number (transactions_of order)) ≡ length order
-          counted setting tables number [] = refl
-          counted setting tables number (receipt ∷ order) =
-              ap suc (counted setting (left_by setting tables (transaction_of receipt)) (number + 1) order)
 
-  can_come : (acquired : ℕ) (served : List ServedOf) (error : CloseError)
+  pub can_come : (acquired : ℕ) (served : List ServedOf) (error : CloseError)
       → IsCloseCause book acquired seats served error → CanCome error
   unfolding not_missing not_wrong
   can_come acquired served f.CountDiffers cause = tt
@@ -361,22 +358,21 @@ module _ (checked : CheckedOf) (log : List ReceiptOf) (book : Book) (seats : Lis
   can_come acquired served f.StartLate cause = tt
   can_come acquired served f.OutOfMemory cause = tt
 
-module _ (checked : CheckedOf) (acquired : ℕ) (book : Book) (seats seen : List SeatOf) (served told : List ServedOf)
-    (named : book_checked book ≡ checked) (same : seen ≡ seats) (alike : told ≡ served)
-    (witnessed : AreWitnessed checked acquired seats served book) where
-  pub comes_as_named : (error : CloseError) → IsCloseCause book acquired seen told error → CanCome error
-  comes_as_named error cause =
-      can_come checked witnessed.closing.log book seen named
-      (subst (λ (list : List SeatOf). IsLogOfSeats checked witnessed.closing.log list book) (sym same)
-      witnessed.logged) acquired told error cause
+-- ---- what the publisher says of its seats and connections
 
-  pub witnessed_as_named : AreWitnessed (book_checked book) acquired seen told book
-  witnessed_as_named =
-      subst (λ (one : CheckedOf). AreWitnessed one acquired seen told book) (sym named)
-      (subst (λ (list : List SeatOf). AreWitnessed checked acquired list told book) (sym same)
-      (subst (λ (list : List ServedOf). AreWitnessed checked acquired seats list book) (sym alike) witnessed))
-
-pub memory_comes : {A : Type 0} (result : Result A CloseError)
-    → IsErrAnd result (λ error. error ≡ f.OutOfMemory) → IfErr result CanCome
-memory_comes (Ok done) memory = tt
-memory_comes (Err error) memory = subst CanCome (sym memory) tt
+pub witnessed_as_named : (checked : CheckedOf) (closing : ClosingOf) (acquired : ℕ) (seats seen : List SeatOf)
+    (served told : List ServedOf) (book : Book) → book_checked book ≡ checked
+    → StandsFor book (transactions_of closing.log) → acquired ≡ acquisitions closing.events → seen ≡ seats
+    → told ≡ served → AreSeatsIn (setting_in checked) closing.log seats → All (IsWitnessed checked) served
+    → All (λ (one : ServedOf). IsSeenIn closing one.viewer) served
+    → AreWitnessed (book_checked book) closing acquired seen told book
+witnessed_as_named checked closing acquired seats seen served told book named stands count same alike seats_in witnessed
+    shown =
+    subst (λ (one : CheckedOf). AreWitnessed one closing acquired seen told book) (sym named)
+    (subst (λ (list : List SeatOf). AreWitnessed checked closing acquired list told book) (sym same)
+    (subst (λ (list : List ServedOf). AreWitnessed checked closing acquired seats list book) (sym alike) (record {
+      logged = record { stands = stands; each = seats_in.each; once = seats_in.once };
+      witnessed = witnessed;
+      seen = shown;
+      count = count;
+    })))

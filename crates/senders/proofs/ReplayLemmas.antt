@@ -16,7 +16,6 @@ use Rattle.tables_log.specs.BookView.{book_limit, book_log, book_rows, book_sett
 use Rattle.tables_log.specs.Commits.{CommitOf, commit_of}
 use Rattle.tables_log.specs.Committing.{Commits, RefusedBy}
 use Rattle.tables_log.specs.Logs.{entry_at}
-use Rattle.tables_log.specs.Slots.{AreInUse}
 use Rattle.tables_log.specs.StandsFor.{Transaction, StandsFor, IsAccepted, AreAccepted, after}
 use Rattle.tables_log.specs.declared.book.Book.{Book}
 use Rattle.tables_log.specs.declared.error.CommitError.{CommitError}
@@ -24,7 +23,6 @@ use Rattle.tables_log.specs.declared.error.CommitError.TheVariants as e
 use Rattle.tables_log.proofs.PlaceLemmas.{get_last, number_is}
 use Rattle.tables_log.proofs.StandLemmas.{commits_add_one}
 use Rattle.publisher_desk.specs.Receipts.{ReceiptOf, transaction_of, transactions_of}
-use Rattle.publisher_desk.specs.SlotEvents.{no_use}
 use Rattle.publisher_desk.specs.declared.note.Reading.{Reading}
 use Rattle.senders.specs.CloseCauses.{IsUnlike, IsRefusedThere, IsOtherThere}
 use Rattle.senders.specs.Histories.{IsRight}
@@ -104,7 +102,7 @@ module _ (book old : Book) (order : List ReceiptOf) (receipt : ReceiptOf) (place
           log = again.commits.log ∙ ap (λ (log : List CommitOf). log ++ entry ∷ []) so_far.log
               ∙ sym (take_one_more (book_log book) (length (book_log old)) entry there)
               ∙ ap (λ (n : ℕ). take n (book_log book)) (sym count);
-          free = subst (AreInUse no_use) (sym again.commits.slots) so_far.free;
+          unused = again.commits.slots ∙ so_far.unused;
         },
         omega (arith, count, counted),
       )

@@ -239,6 +239,7 @@ module _ (checked : CheckedOf) (old new : BooksOf) (more : AreMore old new) wher
   book_still : (book : Book) → IsBookFor checked old book → IsBookFor checked new book
   book_still book is = record {
     named = is.named;
+    each = is.each;
     transactions = is.transactions;
     stands = is.stands;
     begins = more.log is.transactions is.begins;

@@ -1,7 +1,7 @@
--- Why a publisher cannot be closed: PostgreSQL 15, 3.4. Transactions, and 55.4. Streaming Replication Protocol.
-use Rattle.std.specs.Prelude.{◌≡◌, ◌≢◌, ℕ, ◌+◌, ◌<◌, List, All, length, slice_get, take, Some}
+-- Which comparison found a reason why a publisher cannot be closed: PostgreSQL 15, 3.4. Transactions, and 55.4.
+-- Streaming Replication Protocol.
+use Rattle.std.specs.Prelude.{◌≡◌, ◌≢◌, ℕ, ◌+◌, List, All, length, slice_get, take, Some}
 use Rattle.std.specs.List.Sorted.{IsPermutation, IsNonDecreasingBy}
-use Rattle.shard_checker.specs.CheckedView.{CheckedOf}
 use Rattle.table_changes.specs.Records.{record_of}
 use Rattle.table_changes.specs.Setting.{Setting}
 use Rattle.table_changes.specs.Tables.{no_rows}
@@ -9,14 +9,9 @@ use Rattle.tables_log.specs.BookView.{book_checked, book_setting, book_log}
 use Rattle.tables_log.specs.Commits.{CommitOf, commit_of}
 use Rattle.tables_log.specs.StandsFor.{IsAccepted, AreAccepted, entries_from, after}
 use Rattle.tables_log.specs.declared.book.Book.{Book}
-use Rattle.publisher_desk.specs.Counting.{IsCounted}
-use Rattle.publisher_desk.specs.Held.{IsBookOf}
 use Rattle.publisher_desk.specs.Receipts.{ReceiptOf, transaction_of, transactions_of}
 use Rattle.publisher_desk.specs.Seats.{SeatOf}
 use Rattle.publisher_desk.specs.Logged.{RiseTo}
-use Rattle.publisher_desk.specs.SlotEvents.{acquisitions}
-use Rattle.publisher_desk.specs.SlotSights.{BeginsWith}
-use Rattle.publisher_desk.specs.declared.slot_event.SlotEvent.{SlotEvent}
 use Rattle.senders.specs.Gathering.{all_receipts, all_readings, numbers_of, IsRisingSeat}
 use Rattle.senders.specs.Histories.{AreInOrder, IsRight}
 use Rattle.senders.specs.Reached.{AreReached, IsOrder, LacksConnection}
@@ -118,16 +113,6 @@ IsCloseCause book acquired seats served ConnectionMissing = HasMissingConnection
 IsCloseCause book acquired seats served StartLate = HasLateStart book acquired seats served
 IsCloseCause book acquired seats served OutOfMemory = Unit {0}
 
--- Of all seats, `left` were never handed out. Receipts are too few only if not all others are passed in.
-abbrev pub IsHeldBack : ℕ → ℕ → List SeatOf → CloseError → Type 0
-IsHeldBack all left seats CountDiffers = left + length seats < all
-IsHeldBack all left seats ReceiptMissing = Unit {0}
-IsHeldBack all left seats ReadingWrong = Unit {0}
-IsHeldBack all left seats TakenDiffers = Unit {0}
-IsHeldBack all left seats ConnectionMissing = Unit {0}
-IsHeldBack all left seats StartLate = Unit {0}
-IsHeldBack all left seats OutOfMemory = Unit {0}
-
 -- A receipt is never missing, and no reading is wrong: the publisher's history ties them to its log, and a seat of
 -- another publisher cannot be passed in.
 abbrev pub CanCome : CloseError → Type 0
@@ -138,17 +123,3 @@ CanCome TakenDiffers = Unit {0}
 CanCome ConnectionMissing = Unit {0}
 CanCome StartLate = Unit {0}
 CanCome OutOfMemory = Unit {0}
-
--- The publisher's book is of the checked catalog, takes this number of commits and is of some list of transactions.
--- It has no fewer commits than the seats have receipts, and exactly as many if no seat is held back. The events of the
--- slots that each connection has seen are a beginning of these, in which so many streams acquired slots. These are the
--- cause of the refusal.
-pub record RefusedClose (checked : CheckedOf) (limit all left : ℕ) (seats : List SeatOf) (served : List ServedOf)
-    (error : CloseError) : Type 0 where
-  pub book : Book
-  pub events : List SlotEvent
-  pub known : All (λ (one : ServedOf). BeginsWith events one.viewer.events) served
-  pub is : IsBookOf checked limit book
-  pub counted : IsCounted all left seats (length (book_log book))
-  pub cause : IsCloseCause book (acquisitions events) seats served error
-  pub held_back : IsHeldBack all left seats error

@@ -18,7 +18,9 @@ use Rattle.copy_both.specs.VoiceLaws.{AreAt, takes_in}
 use Rattle.senders.specs.declared.end.End.{End}
 use Rattle.senders.specs.declared.end.End.TheVariants.{Finished}
 use Rattle.senders.specs.Results.{ServedOf}
+use Rattle.publisher_desk.specs.Receipts.{transactions_of}
 use Rattle.publisher_desk.specs.Seats.{SeatOf}
+use Rattle.publisher_desk.specs.Viewers.{ClosingOf}
 use Rattle.senders.specs.Closing.{IsClosed}
 use Rattle.stream_laws.specs.Following.{Follows, items_from}
 use Rattle.stream_laws.specs.Cutting.{whole_in}
@@ -100,29 +102,32 @@ pub record AreExplained (checked : CheckedOf) (transactions : List Transaction) 
   pub few : length transactions ≤ 1000000000
 
 abbrev pub ClosedAreExplained : Type 0
-ClosedAreExplained = (checked : CheckedOf) (limit : ℕ) (seats : List SeatOf) (served : List ServedOf) (book : Book)
-    (closed : IsClosed checked limit seats served book)
-    → AreExplained checked closed.transactions
+ClosedAreExplained = (checked : CheckedOf) (limit : ℕ) (closing : ClosingOf) (seats : List SeatOf)
+    (served : List ServedOf) (book : Book) → IsClosed checked limit closing seats served book
+    → AreExplained checked (transactions_of closing.log)
 
 -- So what was written to each connection, without a CopyDone at the end, is a prefix of the stream over the log of
 -- these transactions.
 abbrev pub ClosedTellTheLog : Type 0
-ClosedTellTheLog = (checked : CheckedOf) (limit : ℕ) (seats : List SeatOf) (served : List ServedOf) (book : Book)
-    (closed : IsClosed checked limit seats served book)
+ClosedTellTheLog = (checked : CheckedOf) (limit : ℕ) (closing : ClosingOf) (seats : List SeatOf)
+    (served : List ServedOf) (book : Book) → IsClosed checked limit closing seats served book
     → (one : ServedOf) → Contains served one → (known : BooksOf) (frames : List Frame) (slot start : ℕ)
     → one.start ≡ Some start → (written : List ℕ) (failed : Bool)
     → IsStream checked known frames slot start one.taken written failed one.end
-    → IsFirstPart checked closed.transactions frames slot start one.taken written one.end
+    → IsFirstPart checked (transactions_of closing.log) frames slot start one.taken written one.end
 
 -- And a subscriber that has its shard, opened this connection at its own position, and was fed any prefix of what was
 -- written has its shard of the tables as of the commits of these transactions that its position counts.
 abbrev pub ClosedAreFollowed : Type 0
-ClosedAreFollowed = (checked : Checked) (limit : ℕ) (seats : List SeatOf) (served : List ServedOf) (book : Book)
-    (closed : IsClosed (checked_view checked) limit seats served book)
+ClosedAreFollowed = (checked : Checked) (limit : ℕ) (closing : ClosingOf) (seats : List SeatOf)
+    (served : List ServedOf) (book : Book) → IsClosed (checked_view checked) limit closing seats served book
     → (one : ServedOf) (frames : List Frame) (slot start : ℕ) (written : List ℕ)
-    → (part : IsFirstPart (checked_view checked) closed.transactions frames slot start one.taken written one.end)
-    → (old between new : Subscriber) → SubFollows (checked_view checked) closed.transactions slot old
+    → (part : IsFirstPart (checked_view checked) (transactions_of closing.log) frames slot start one.taken written
+    one.end)
+    → (old between new : Subscriber)
+    → SubFollows (checked_view checked) (transactions_of closing.log) slot old
     → (sub_machine old).position ≡ start → Opens old between
     → (bytes rest : List ℕ) → bytes ++ rest ≡ part.front → Feeds between bytes new
-    → Follows (checked_view checked) closed.transactions slot
-    (position_after_bytes (checked_view checked) closed.transactions slot start part.moves bytes) (sub_machine new)
+    → Follows (checked_view checked) (transactions_of closing.log) slot
+    (position_after_bytes (checked_view checked) (transactions_of closing.log) slot start part.moves bytes)
+    (sub_machine new)

@@ -3,12 +3,12 @@
 use Rattle.std.specs.Prelude.{◌≡◌, ◌≤◌, ℕ, List, All, length, take}
 use Rattle.std.specs.List.{range_with_len}
 use Rattle.std.specs.List.Sorted.{IsPermutation}
-use Rattle.shard_checker.specs.CheckedView.{CheckedOf}
+use Rattle.shard_checker.specs.CheckedView.{CheckedOf, setting_in}
 use Rattle.table_changes.specs.Setting.{Setting}
-use Rattle.tables_log.specs.StandsFor.{Transaction, after}
+use Rattle.tables_log.specs.StandsFor.{StandsFor, Transaction, after}
 use Rattle.tables_log.specs.declared.book.Book.{Book}
-use Rattle.publisher_desk.specs.Logged.{IsLogOfSeats}
-use Rattle.publisher_desk.specs.Receipts.{ReceiptOf}
+use Rattle.publisher_desk.specs.Logged.{IsSeatIn, drawn_by}
+use Rattle.publisher_desk.specs.Receipts.{ReceiptOf, transactions_of}
 use Rattle.publisher_desk.specs.Seats.{SeatOf}
 use Rattle.publisher_desk.specs.SlotEvents.{acquisitions}
 use Rattle.publisher_desk.specs.Viewers.{ClosingOf, IsSeenIn}
@@ -28,11 +28,18 @@ pub record IsRight (setting : Setting) (transactions : List Transaction) (readin
   pub within : reading.number ≤ length transactions
   pub answer_is : reading.answer ≡ after setting (take reading.number transactions) reading.table 0 reading.key
 
+-- The book is of the transactions of this log, of which each of these seats has seen a beginning, and in which all of
+-- their receipts are at their numbers, which rise in each seat and of which no two are equal. Each reading is right by
+-- the log's beginning.
+pub record IsLogOfSeats (checked : CheckedOf) (log : List ReceiptOf) (seats : List SeatOf) (book : Book) : Type 0 where
+  pub stands : StandsFor book (transactions_of log)
+  pub each : All (IsSeatIn (setting_in checked) log) seats
+  pub once : (n : ℕ) → drawn_by n seats ≤ 1
+
 -- The book is of the log of a publisher that is being closed, in which the receipts of the seats are, and of which each
 -- connection has seen a beginning. So many streams acquired slots in its events, of which each has seen the first.
-pub record AreWitnessed (checked : CheckedOf) (acquired : ℕ) (seats : List SeatOf) (served : List ServedOf)
-    (book : Book) : Type 0 where
-  pub closing : ClosingOf
+pub record AreWitnessed (checked : CheckedOf) (closing : ClosingOf) (acquired : ℕ) (seats : List SeatOf)
+    (served : List ServedOf) (book : Book) : Type 0 where
   pub logged : IsLogOfSeats checked closing.log seats book
   pub witnessed : All (IsWitnessed checked) served
   pub seen : All (λ (one : ServedOf). IsSeenIn closing one.viewer) served

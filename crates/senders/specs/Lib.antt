@@ -1,5 +1,6 @@
 pub mod Causes
 pub mod CloseCauses
+pub mod CloseReasons
 pub mod Closing
 pub mod Connections
 pub mod Flushing

@@ -1,15 +1,15 @@
 -- How receipts are made again on a book without commits, and how far that has come: PostgreSQL 15, 3.4. Transactions.
-use Rattle.std.specs.Prelude.{◌≡◌, ◌≢◌, ℕ, ◌≤◌, List, length, take}
+use Rattle.std.specs.Prelude.{◌≡◌, ◌≢◌, ℕ, ◌≤◌, List, false, length, replicate, take}
 use Rattle.tables_log.specs.BookView.{book_checked, book_limit, book_log, book_setting, book_slots}
-use Rattle.tables_log.specs.Committing.{Commits, RefusedBy}
+use Rattle.tables_log.specs.Committing.{ChangesSlots, Commits, RefusedBy}
 use Rattle.tables_log.specs.Logs.{entry_at}
-use Rattle.tables_log.specs.Slots.{AreInUse}
+use Rattle.tables_log.specs.Slots.{KeepsUse, confirmed_at}
 use Rattle.tables_log.specs.StandsFor.{StandsFor}
 use Rattle.tables_log.specs.declared.book.Book.{Book}
+use Rattle.tables_log.specs.declared.slots.Slot.{Slot}
 use Rattle.tables_log.specs.declared.error.CommitError.{CommitError}
 use Rattle.tables_log.specs.declared.error.CommitError.TheVariants as e
 use Rattle.publisher_desk.specs.Receipts.{ReceiptOf, transactions_of}
-use Rattle.publisher_desk.specs.SlotEvents.{no_use}
 use Rattle.senders.specs.CloseCauses.{IsUnlike}
 use Rattle.senders.specs.declared.close_error.CloseError.{CloseError}
 use Rattle.senders.specs.declared.close_error.CloseError.TheVariants.{CountDiffers, ReceiptMissing, ReadingWrong, TakenDiffers, ConnectionMissing, StartLate, OutOfMemory}
@@ -42,13 +42,20 @@ IsMissingFor reason OutOfMemory = Unit {0}
 -- ---- several
 
 -- The fresh book has made the first of the receipts again, as many as its log has entries, and its log is the
--- beginning of the first book's. No slot is in use.
+-- beginning of the first book's. Its slots are free, and nothing is confirmed for them.
 pub record Replays (book fresh : Book) (order : List ReceiptOf) : Type 0 where
   pub named : book_checked fresh ≡ book_checked book
   pub limited : book_limit fresh ≡ book_limit book
   pub stands : StandsFor fresh (transactions_of (take (length (book_log fresh)) order))
   pub log : book_log fresh ≡ take (length (book_log fresh)) (book_log book)
-  pub free : AreInUse no_use (book_slots fresh)
+  pub unused : book_slots fresh
+      ≡ replicate (length (book_checked book).catalog.subscriptions) (record { confirmed = 0; taken = false })
+
+-- Only the slots of the fresh book change: those that are free stay free, and each is confirmed as these are.
+pub record IsConfirmedAs (slots : List Slot) (fresh last : Book) : Type 0 where
+  pub changes : ChangesSlots fresh last (book_slots last)
+  pub uses : KeepsUse (book_slots fresh) (book_slots last)
+  pub confirmed : (slot : ℕ) → confirmed_at (book_slots last) slot ≡ confirmed_at slots slot
 
 -- The first book's log has an entry for each receipt, and is within its limit.
 pub record IsAsLong (book : Book) (order : List ReceiptOf) : Type 0 where

@@ -20,7 +20,8 @@ pub enum CloseError {
     /// A connection that was finished stops before the log's end.
     #[error("a finished connection stops before the end of the log")]
     TakenDiffers,
-    /// A stream was started for a connection that is not among those that were passed in.
+    /// A stream acquired a slot, and its connection is not among those that were passed in; or two of these report the
+    /// same acquisition.
     #[error("the result of a connection is missing")]
     ConnectionMissing,
     /// A stream started after a commit that was taken for no earlier connection of its slot whose client confirmed it,

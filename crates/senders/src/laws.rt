@@ -31,11 +31,11 @@ pub fn clients_of_connections_follow()
     ensures stop { ClientsStop }
 {}
 
-/// A law, and no code, about a publisher that was closed, whose answer is `IsClosed`. The transactions that explain
-/// its receipts were accepted one after another, and have times of 64 bits (`explained`). What was written to each of
-/// its connections, without a CopyDone at the end, is a prefix of the stream over the log of these transactions
-/// (`streams`). A subscriber that has its shard, opened the connection at its own position and was fed any prefix of
-/// this has its shard of the tables as of the commits that its position counts (`clients`).
+/// A law, and no code, about a publisher that was closed, whose answer is `IsClosed`. The transactions of its log,
+/// which explain its receipts, were accepted one after another, and have times of 64 bits (`explained`). What was
+/// written to each of its connections, without a CopyDone at the end, is a prefix of the stream over the log of these
+/// transactions (`streams`). A subscriber that has its shard, opened the connection at its own position and was fed any
+/// prefix of this has its shard of the tables as of the commits that its position counts (`clients`).
 ///
 /// PostgreSQL 15, 3.4. Transactions, and 31.2. Subscription.
 pub fn closed_publishers_were_followed()

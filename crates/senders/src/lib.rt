@@ -52,8 +52,8 @@ pub use laws::{
     clients_of_connections_follow, closed_publishers_were_followed, served_streams_tell_the_log,
 };
 pub use publisher_desk::{
-    Note, Opening, Publisher, Publishing, ReadFault, Reading, Receipt, Seat, Seats, Viewer,
-    threads_share_publishers,
+    Closing, Note, Opening, Publisher, Publishing, ReadFault, Reading, Receipt, Seat, Seats,
+    Viewer, threads_share_publishers,
 };
 pub use served::Served;
 pub use serving::serve;

@@ -57,12 +57,12 @@ fn confirmed_positions(book: &Book) -> [Lsn; SLOTS]
     positions
 }
 
-/// Whether the stream of the slot starts after the position of these up to which the slot was confirmed.
-fn is_after(confirmed: &[Lsn], slot: SlotNumber, start: Lsn) -> bool
+/// Whether the position is after that of these up to which the slot was confirmed.
+fn is_after(confirmed: &[Lsn], slot: SlotNumber, position: Lsn) -> bool
     ensures within { IsTrue result → slot < length confirmed.now }
-    ensures after { IsTrue result → slice_index confirmed.now slot < start }
+    ensures after { IsTrue result → slice_index confirmed.now slot < position }
 {
-    slot < confirmed.len() && start.is_after(confirmed[slot])
+    slot < confirmed.len() && position.is_after(confirmed[slot])
 }
 
 /// The sent position that statuses are compared with: that up to which the slot's client was sent the log, or the

@@ -110,8 +110,9 @@ impl<P: Publishing> Served<P> {
         self.number
     }
 
-    /// Establishes that what the connection has seen is the beginning of the log and of the events of the slots.
-    pub(crate) fn check(&mut self, closing: &mut Closing<P>)
+    /// Establishes that what the connection has seen is a beginning of the log and of the events of the slots, whether
+    /// it is passed to `close` or not.
+    pub fn check(&mut self, closing: &mut Closing<P>)
         ensures seen { IsSeenIn closing.old self.old.viewer }
         ensures witnessed { IsWitnessed P.checked self.old }
         ensures same { self.new ≡ self.old }

@@ -128,8 +128,9 @@ fn both_sessions<P: Publishing + Sync, R: Threads + Wait + Sync>(
     let mut both = Vec::new(alloc);
     both.push(first)?;
     both.push(second)?;
-    let closing = publisher.into_closing();
-    Ok(closing.into_counted(seats, both.as_mut_slice()).log_len())
+    let mut closing = publisher.into_closing();
+    closing.count(&mut seats, both.as_mut_slice());
+    Ok(closing.book().log_len())
 }
 
 #[test]

@@ -1,6 +1,6 @@
 //! The publisher's tables, its log and its slots.
 
-ghost use Rattle.std.specs.Prelude.{◌≤◌, length, map};
+ghost use Rattle.std.specs.Prelude.{◌≡◌, ◌≤◌, length, map};
 ghost use Rattle.std.specs.Arc.{arc_value};
 ghost use Rattle.row_owners.specs.Routers.{IsRouterOf};
 ghost use Rattle.shard_checker.specs.CheckedView.{checked_view};
@@ -50,6 +50,7 @@ pub struct Book {
     ghost maps: { HasMaps (checked_view (arc_value checked)).catalog.tables tables.items },
     ghost settled: { IsSettled tables.items },
     ghost bounded: { IsBounded slots.items (length log.items) },
+    ghost each: { length slots.items ≡ length (checked_view (arc_value checked)).catalog.subscriptions },
 }
 
 impl Book {
@@ -138,6 +139,13 @@ impl Book {
             .routes_of(self.alloc, &self.checked, commit.changes());
         self.log.push_reserved(Routed { commit, routes });
         Ok(number)
+    }
+
+    /// That there is a slot for each subscription of the catalog; no code.
+    pub fn has_each_slot(&self)
+        ensures { length (book_slots self.now) ≡ length (book_checked self.now).catalog.subscriptions }
+    {
+        let _slots = &self.slots;
     }
 
     /// How many commits the log may have, from 1 to 1,000,000,000, as it was given to `Book::new`.

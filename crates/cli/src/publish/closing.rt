@@ -47,7 +47,7 @@ fn tell_error<'a, W: Writer>(
 pub(crate) fn close_session<'a, P: Publishing, W: Writer>(
     alloc: Global,
     publisher: Publisher<P>,
-    rest: Seats<P>,
+    mut rest: Seats<P>,
     seat: Seat<P>,
     served: Vec<Served<P>>,
     writer: &mut W,
@@ -58,7 +58,8 @@ pub(crate) fn close_session<'a, P: Publishing, W: Writer>(
     ensures { Closes P.checked P.limit seat (W.contents writer.old) (W.contents writer.new) result }
 {
     let seats = vec![in alloc; seat]?;
-    match close(publisher, rest, seats, served) {
+    let mut closing = publisher.into_closing();
+    match close(&mut closing, &mut rest, seats, served) {
         Ok(closed) => tell_closed(alloc, closed.book.log_len(), closed.served.len(), writer),
         Err(error) => tell_error(alloc, error, writer),
     }

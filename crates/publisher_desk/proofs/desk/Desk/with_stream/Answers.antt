@@ -1,6 +1,7 @@
-use Rattle.std.proofs.Common.{List, arith, length, refl, rules, subst, sym}
+use Rattle.std.proofs.Common.{List, ap, arith, length, refl, rules, subst, sym, ◌∙◌}
 use Rattle.std.proofs.lemmas.Grind.{common_steps}
 use Rattle.std.specs.Prelude.{Option}
+use Rattle.shard_checker.specs.CheckedView.{CheckedOf}
 use Rattle.tables_log.specs.BookView.{book_log, book_slots}
 use Rattle.tables_log.specs.Lsn.{end_lsn_of}
 use Rattle.publisher_desk.specs.Held.{AreSentUpTo}
@@ -71,6 +72,8 @@ returns-clause-used g c =
       log_is = refl;
       events = events;
       used = c.self.invariant.events_are.used;
+      each = c.has_each_slot.ensures
+          ∙ ap (λ (checked : CheckedOf). length checked.catalog.subscriptions) c.self.invariant.is.named;
       number_is = search rules;
       changes =
           let was = slot_sight_of c.args.slots.now in

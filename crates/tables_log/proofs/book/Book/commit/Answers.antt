@@ -26,6 +26,7 @@ invariant_of-self c = record {
   maps = c.args.self.now.maps;
   settled = c.args.self.now.settled;
   bounded = grind (arith, common_steps);
+  each = c.args.self.now.each;
 }
 
 pub invariant_of-self-in-Break-branch-3 : goal.invariant_of-self-in-Break-branch-3
@@ -51,6 +52,7 @@ invariant_of-self-in-Break-branch-3 c = record {
       ∙ ap length c.deref_mut.ensures.value ∙ sym c.args.self.now.tables.ok.0)))
       c.commit_tables.ensures.settled;
   bounded = grind (arith, common_steps);
+  each = c.args.self.now.each;
 }
 
 pub invariant_of-self-2 : goal.invariant_of-self-2
@@ -87,6 +89,7 @@ invariant_of-self-2 c = record {
       ∙ ap length c.deref_mut.ensures.value ∙ sym c.args.self.now.tables.ok.0)))
       c.commit_tables.ensures.settled;
   bounded = grind (arith, common_steps, bounded_more);
+  each = c.args.self.now.each;
 }
 
 -- a full log is reported without memory
