@@ -223,6 +223,7 @@ SESSIONS = Theorem("sessions", [
     clauses("publisher_desk", "publisher.rt", "compare"),
     clauses("publisher_desk", "publisher.rt", "compare_seat"),
 ], most=1550, tokens={
+    "OwnsHeld": "that the number by which a `Viewer` acquired its slot is among its own, from which `release` is proved",
     **BOOKS,
     "book_limit": LIMIT,
 }, traits=[
@@ -234,6 +235,7 @@ SESSIONS = Theorem("sessions", [
 CLOSED = Theorem("closed", [
     clauses("senders", "closing.rt", "close"),
     clauses("senders", "served.rt", "check", "seen"),
+    clauses("senders", "served.rt", "compare", "apart"),
     clauses("publisher_desk", "closing.rt", "check_seat", "seen"),
     clauses("publisher_desk", "closing.rt", "book", "used"),
     clauses("publisher_desk", "closing.rt", "count", "counted"),

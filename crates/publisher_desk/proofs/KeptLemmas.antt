@@ -14,18 +14,23 @@ use Rattle.publisher_desk.specs.declared.sight.HistoryView.{HistoryView}
 
 -- ---- numbers
 
-abbrev only : ℕ → ℕ → ℕ
+abbrev pub only : ℕ → ℕ → ℕ
 only number n = cond (eqb number n) 1 0
 
-only_here : (number n : ℕ) → number ≡ n → only number n ≡ 1
+pub only_here : (number n : ℕ) → number ≡ n → only number n ≡ 1
 only_here number n same = ap (λ b. cond b 1 0) (eq-eqb number n same)
 
-only_else : (number n : ℕ) → number ≢ n → only number n ≡ 0
+pub only_else : (number n : ℕ) → number ≢ n → only number n ≡ 0
 only_else number n apart = ap (λ b. cond b 1 0) (ne_eqb number n apart)
 
 pub times_append : (n : ℕ) (numbers more : List ℕ) → times n (numbers ++ more) ≡ times n numbers + times n more
 times_append n [] more = omega arith
 times_append n (number ∷ numbers) more = let rest = times_append n numbers more in omega (arith, rest)
+
+pub times_last : (number : ℕ) (numbers : List ℕ) → 1 ≤ times number (numbers ++ number ∷ [])
+times_last number numbers =
+    let all = times_append number numbers (number ∷ []) in let last = only_here number number refl in
+    omega (arith, all, last)
 
 drawn_in_append : (n : ℕ) (sights more : List Sight) → drawn_in n (sights ++ more) ≡ drawn_in n sights + drawn_in n more
 drawn_in_append n [] more = omega arith

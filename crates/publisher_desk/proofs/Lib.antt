@@ -2,6 +2,7 @@ pub mod Crossing
 pub mod HeldLemmas
 pub mod KeptLemmas
 pub mod LoggedLemmas
+pub mod OwnLemmas
 pub mod RefusalLemmas
 pub mod SeatLemmas
 pub mod SlotsKept

@@ -1,5 +1,5 @@
 -- What a connection does with the slots keeps what the lock holds, and what it then knows.
-use Rattle.std.proofs.Common.{◌≡◌, ℕ, ◌+◌, List, [], ◌∷◌, ◌++◌, Bool, true, false, refl, sym, ap, ◌∙◌, subst, append-nil, append_assoc, cond, eq-eqb, length, arith}
+use Rattle.std.proofs.Common.{◌≡◌, ℕ, ◌+◌, ◌≤◌, List, [], ◌∷◌, ◌++◌, Bool, true, false, refl, sym, ap, ◌∙◌, subst, append-nil, append_assoc, cond, eq-eqb, length, arith}
 use Rattle.std.specs.Prelude.{Option, Some, None}
 use Rattle.shard_checker.specs.CheckedView.{CheckedOf, setting_in}
 use Rattle.table_changes.specs.Tables.{no_rows}
@@ -12,9 +12,9 @@ use Rattle.tables_log.specs.declared.slots.Slot.{Slot}
 use Rattle.publisher_desk.specs.Held.{AreEventsOf}
 use Rattle.publisher_desk.specs.Logged.{IsHistoryOf}
 use Rattle.publisher_desk.specs.Receipts.{ReceiptOf, transactions_of}
-use Rattle.publisher_desk.specs.Sights.{Sees, StartsWith}
+use Rattle.publisher_desk.specs.Sights.{Sees, StartsWith, times}
 use Rattle.publisher_desk.specs.SlotEvents.{Acquires, AreDated, IsDated, MayAcquire, acquisitions, use_after}
-use Rattle.publisher_desk.specs.SlotSights.{AddsEvent, BeginsWith, HasSlot, MayHaveSlot, SeesEvents, hold, slot_view}
+use Rattle.publisher_desk.specs.SlotSights.{AddsEvent, BeginsWith, HasSlot, MayHaveSlot, OwnsHeld, SeesEvents, hold, slot_view}
 use Rattle.publisher_desk.specs.Viewers.{ChangesSight, HadSlot, HasReleased, Holds, IsAcceptedLog, IsUsed, IsUsedIf, IsStreamed, IsStreamedIf, Releases, SeesLog, SeesMore, ViewerOf, events_with, held_with, log_seen, release}
 use Rattle.publisher_desk.specs.declared.connection_state.ConnectionState.{ConnectionState}
 use Rattle.publisher_desk.specs.declared.sight.HistoryView.{HistoryView}
@@ -27,6 +27,7 @@ use Rattle.publisher_desk.specs.declared.slot_sight.Hold.{Hold}
 use Rattle.publisher_desk.specs.declared.slot_sight.SlotSight.{SlotSight}
 use Rattle.publisher_desk.specs.declared.slot_sight.SlotView.{SlotView}
 use Rattle.publisher_desk.proofs.HeldLemmas.{dated_same, kept_events}
+use Rattle.publisher_desk.proofs.KeptLemmas.{times_last}
 use Rattle.publisher_desk.proofs.LoggedLemmas.{history_long}
 use Rattle.tables_log.proofs.SlotUses.{released_uses}
 use Rattle.publisher_desk.proofs.SlotsKept.{acquired_has, begins_longer, use_more}
@@ -140,6 +141,25 @@ acquires_has all one was now adds =
     (subst (λ (list : List SlotEvent). HasSlot list (hold one (acquisitions all + 1))) (sym adds.seen)
     (acquired_has all one))
 
+-- the number of its acquisition is its own
+pub sees_owns : (all : List SlotEvent) (was now : SlotSight) → SeesEvents all was now → OwnsHeld was.held was.own
+    → OwnsHeld now.held now.own
+sees_owns all was now sees owns =
+    subst (λ (held : Option Hold). OwnsHeld held now.own) (sym sees.held)
+    (subst (OwnsHeld was.held) (sym sees.own) owns)
+
+pub acquires_owns : (all : List SlotEvent) (one : Acquisition) (was now : SlotSight)
+    → AddsEvent all (Acquired one) was now → OwnsHeld now.held now.own
+acquires_owns all one was now adds =
+    subst (λ (held : Option Hold). OwnsHeld held now.own) (sym adds.held)
+    (subst (λ (own : List ℕ). 1 ≤ times (acquisitions all + 1) own) (sym adds.own)
+    (times_last (acquisitions all + 1) was.own))
+
+pub changes_owns : (acquired : Option Acquisition) (all : List SlotEvent) (was now : SlotSight)
+    → ChangesSight acquired all was now → OwnsHeld was.held was.own → OwnsHeld now.held now.own
+changes_owns None all was now changes owns = sees_owns all was now changes owns
+changes_owns (Some one) all was now changes owns = acquires_owns all one was now changes
+
 pub changes_has : (acquired : Option Acquisition) (all : List SlotEvent) (was now : SlotSight)
     → ChangesSight acquired all was now → MayHaveSlot now.events now.held
 changes_has None all was now changes = sees_has all was now changes
@@ -161,6 +181,11 @@ pub releases_none : (slot commits : ℕ) (was now : SlotSight) → Releases slot
     → MayHaveSlot now.events now.held
 releases_none slot commits was now releases =
     subst (λ (held : Option Hold). MayHaveSlot now.events held) (sym releases.adds.held) tt
+
+pub releases_owns : (slot commits : ℕ) (was now : SlotSight) → Releases slot commits was now
+    → OwnsHeld now.held now.own
+releases_owns slot commits was now releases =
+    subst (λ (held : Option Hold). OwnsHeld held now.own) (sym releases.adds.held) tt
 
 -- the slot that it had, as events tell
 had_slot : (all now : List SlotEvent) (slot commits : ℕ) (mine : Hold) → HasSlot all mine
@@ -184,9 +209,9 @@ free_then all now slot commits mine same now_is =
     ∙ ap (λ b. cond b false (use_after all mine.acquisition.slot)) (eq-eqb mine.acquisition.slot slot same))
 
 pub has_released : (slot : ℕ) (before after : ViewerOf) (was now : SlotSight) → before.held ≡ was.held
-    → after.events ≡ now.events → after.held ≡ now.held → Holds was.held slot
-    → Releases slot (length after.seen) was now → HasReleased before after
-has_released slot before after was now old_is events_are new_is holds releases =
+    → after.events ≡ now.events → after.held ≡ now.held → after.own ≡ now.own → Holds was.held slot
+    → OwnsHeld was.held was.own → Releases slot (length after.seen) was now → HasReleased before after
+has_released slot before after was now old_is events_are new_is own_is holds owns releases =
     let adds = releases.adds in
     let kept : HasSlot releases.events holds.mine =
     subst (MayHaveSlot releases.events) holds.held_is adds.kept in
@@ -198,14 +223,21 @@ has_released slot before after was now old_is events_are new_is holds releases =
       free = free_then releases.events after.events slot (length after.seen) holds.mine holds.slot_is
           (events_are ∙ adds.seen);
       none = new_is ∙ adds.held;
+      own = subst (λ (own : List ℕ). 1 ≤ times holds.mine.number own) (sym (own_is ∙ adds.own))
+          (subst (λ (held : Option Hold). OwnsHeld held was.own) holds.held_is owns);
     }
 
 pub released_more : (checked : CheckedOf) (slot commits : ℕ) (viewer : ViewerOf) (old new : Sight) (was now : SlotSight)
-    → record { seen = old.seen; events = was.events; held = was.held } ≡ viewer → SeesLog checked old new
+    → record { seen = old.seen; events = was.events; held = was.held; own = was.own } ≡ viewer → SeesLog checked old new
     → Releases slot commits was now
-    → SeesMore viewer (record { seen = new.seen; events = now.events; held = now.held })
+    → SeesMore viewer (record { seen = new.seen; events = now.events; held = now.held; own = now.own })
 released_more checked slot commits viewer old new was now viewer_is sees releases =
-    subst (λ (v : ViewerOf). SeesMore v (record { seen = new.seen; events = now.events; held = now.held })) viewer_is
+    subst (λ (v : ViewerOf). SeesMore v (record {
+      seen = new.seen;
+      events = now.events;
+      held = now.held;
+      own = now.own;
+    })) viewer_is
     (record {
       log = sees_more_log sees.log old new sees.sees;
       slots = adds_more_events releases.events (Released (release slot commits)) was now releases.adds;
@@ -224,12 +256,26 @@ held_changed None all number was now number_is changes = changes.held
 held_changed (Some one) all number was now number_is changes =
     changes.held ∙ ap (λ (n : ℕ). Some (hold one n)) (sym number_is)
 
+module _ {U A : Type 0}
+    (did : U → U → Book → Book → List ConnectionState → List ConnectionState → ℕ → Option Acquisition → A → Type 0)
+    (checked : CheckedOf) (before after : U) (old new : Sight) (was now : SlotSight) where
+  pub used_has : (answer : Option A) → IsStreamedIf did checked before after old new was now answer
+      → MayHaveSlot was.events was.held → MayHaveSlot now.events now.held
+  used_has None unused has = subst (λ (s : SlotSight). MayHaveSlot s.events s.held) (sym unused.slots) has
+  used_has (Some answer) streamed has = changes_has streamed.acquired streamed.events was now streamed.changes
+
+  pub used_owns : (answer : Option A) → IsStreamedIf did checked before after old new was now answer
+      → OwnsHeld was.held was.own → OwnsHeld now.held now.own
+  used_owns None unused owns = subst (λ (s : SlotSight). OwnsHeld s.held s.own) (sym unused.slots) owns
+  used_owns (Some answer) streamed owns =
+      changes_owns streamed.acquired streamed.events was now streamed.changes owns
+
 -- what contracts see of it
 module _ {U A : Type 0}
     (did : U → U → Book → Book → List ConnectionState → List ConnectionState → ℕ → Option Acquisition → A → Type 0)
     (checked : CheckedOf) (before after : U) (old new : Sight) (was now : SlotSight) (viewer later : ViewerOf)
-    (viewer_is : record { seen = old.seen; events = was.events; held = was.held } ≡ viewer)
-    (later_is : later ≡ record { seen = new.seen; events = now.events; held = now.held }) where
+    (viewer_is : record { seen = old.seen; events = was.events; held = was.held; own = was.own } ≡ viewer)
+    (later_is : later ≡ record { seen = new.seen; events = now.events; held = now.held; own = now.own }) where
   is_used : (answer : A) → IsStreamed did checked before after old new was now answer
       → IsUsed did checked viewer later before after answer
   is_used answer streamed = record {
@@ -266,6 +312,7 @@ module _ {U A : Type 0}
       seen = (unused.log i).seen;
       events = (unused.slots i).events;
       held = (unused.slots i).held;
+      own = (unused.slots i).own;
     }) ∙ viewer_is;
     user = unused.user;
   }
@@ -273,8 +320,12 @@ module _ {U A : Type 0}
 
   more_of : StartsWith new.seen old.seen → BeginsWith now.events was.events → SeesMore viewer later
   more_of log slots = subst (λ (v : ViewerOf). SeesMore v later) viewer_is
-      (subst (λ (v : ViewerOf). SeesMore (record { seen = old.seen; events = was.events; held = was.held }) v)
-      (sym later_is) (record { log = log; slots = slots }))
+      (subst (λ (v : ViewerOf). SeesMore (record {
+        seen = old.seen;
+        events = was.events;
+        held = was.held;
+        own = was.own;
+      }) v) (sym later_is) (record { log = log; slots = slots }))
 
   pub used_more : (answer : Option A) → IsStreamedIf did checked before after old new was now answer
       → SeesMore viewer later

@@ -9,14 +9,14 @@ use Rattle.atomic_table.specs.Table.{State, Me, Allows, Splits, Joins}
 use Rattle.atomic_table.specs.Table as table
 use Rattle.atomic_table.proofs.Lists.{at_set, at_snoc, set_else}
 use Rattle.publisher_desk.specs.SlotEvents.{LeaveAlone, acquisitions, slot_in, use_after, use_by, use_from}
-use Rattle.publisher_desk.specs.SlotSights.{slot_view, hold, BeginsWith, HasSlot, MayHaveSlot, AreKnown, has_slot, held_in, held_by, FitsEvents, AreSlotsKept, begun, shown_in, shown, held_after, added_in, added, MayHappen, first_in, rest_in, only_in, left, given, joined, nobody}
+use Rattle.publisher_desk.specs.SlotSights.{slot_view, hold, BeginsWith, HasSlot, MayHaveSlot, AreKnown, has_slot, held_in, held_by, owned_by, owned_in, FitsEvents, AreSlotsKept, begun, shown_in, shown, held_after, added_in, added, MayHappen, first_in, rest_in, only_in, left, given, joined, nobody}
 use Rattle.publisher_desk.specs.declared.slot_event.Acquisition.{Acquisition}
-use Rattle.publisher_desk.specs.declared.slot_event.Release.{Release}
 use Rattle.publisher_desk.specs.declared.slot_event.SlotEvent.{SlotEvent}
 use Rattle.publisher_desk.specs.declared.slot_event.SlotEvent.TheVariants.{Acquired, Released}
 use Rattle.publisher_desk.specs.declared.slot_sight.Hold.{Hold}
 use Rattle.publisher_desk.specs.declared.slot_sight.SlotSight.{SlotSight}
 use Rattle.publisher_desk.specs.declared.slot_sight.SlotView.{SlotView}
+use Rattle.publisher_desk.proofs.OwnLemmas.{added_owned, cuts_owned, joins_owned, newly, newly_low, newly_single, owned_one, owned_set, shown_owned}
 
 -- ---- events
 
@@ -28,20 +28,6 @@ use_push used (first ∷ events) event = use_push (use_by first used) events eve
 pub use_more : (events : List SlotEvent) (event : SlotEvent)
     → use_after (events ++ event ∷ []) ≡ use_by event (use_after events)
 use_more events event = use_push (λ number. false) events event
-
-acquisitions_append : (events more : List SlotEvent)
-    → acquisitions (events ++ more) ≡ acquisitions events + acquisitions more
-acquisitions_append [] more = omega arith
-acquisitions_append (Acquired one ∷ events) more = let rest = acquisitions_append events more in omega (arith, rest)
-acquisitions_append (Released one ∷ events) more = acquisitions_append events more
-
-pub acquired_count : (events : List SlotEvent) (one : Acquisition)
-    → acquisitions (events ++ Acquired one ∷ []) ≡ acquisitions events + 1
-acquired_count events one = acquisitions_append events (Acquired one ∷ [])
-
-pub released_count : (events : List SlotEvent) (one : Release)
-    → acquisitions (events ++ Released one ∷ []) ≡ acquisitions events
-released_count events one = let all = acquisitions_append events (Released one ∷ []) in omega (arith, all)
 
 pub alone_append : (slot : ℕ) (events : List SlotEvent) (event : SlotEvent) → LeaveAlone slot events
     → slot_in event ≢ slot → LeaveAlone slot (events ++ event ∷ [])
@@ -178,11 +164,12 @@ after_event : (all : List SlotEvent) (event : SlotEvent)
 after_event all (Acquired one) = acquired_has all one
 after_event all (Released one) = tt
 
-added_known : (log all : List SlotEvent) (event : SlotEvent) (held : Option Hold) (sights : List SlotSight)
-    → all ≡ log ++ event ∷ [] → MayHaveSlot (log ++ event ∷ []) held → others (slot_in event) sights ≡ 0
-    → AreKnown log sights → AreKnown (log ++ event ∷ []) (added_in all held sights)
-added_known log all event held [] same has none known = tt
-added_known log all event held (one ∷ sights) same has none known = (
+added_known : (log all : List SlotEvent) (event : SlotEvent) (count : ℕ) (sights : List SlotSight)
+    → all ≡ log ++ event ∷ [] → MayHaveSlot (log ++ event ∷ []) (held_after event count)
+    → others (slot_in event) sights ≡ 0
+    → AreKnown log sights → AreKnown (log ++ event ∷ []) (added_in all event count sights)
+added_known log all event count [] same has none known = tt
+added_known log all event count (one ∷ sights) same has none known = (
   begins_whole (log ++ event ∷ []) all same,
   has,
   known_longer log event sights none known.2,
@@ -210,9 +197,13 @@ module _ (views : List SlotView) (kept : AreSlotsKept views) (by : ℕ) (v : Slo
       let mine = kept.each by v at in
       subst (λ (list : List SlotEvent). AreKnown list v.sights) (sym (mine.0 keeps).1) mine.1
 
+  tells_single : (n : ℕ) → owned_in n v.sights ≤ 1
+  tells_single n = let one = owned_one n views by v at in let all = kept.single n in omega (arith, one, all)
+
   stays : (w : SlotView) → w.keeps ≡ v.keeps → w.all ≡ v.all → AreKnown kept.all w.sights
-      → ((slot : ℕ) → held_in slot w.sights ≡ held_in slot v.sights) → AreSlotsKept (set views by w)
-  stays w keeps all known same =
+      → ((slot : ℕ) → held_in slot w.sights ≡ held_in slot v.sights)
+      → ((n : ℕ) → owned_in n w.sights ≡ owned_in n v.sights) → AreSlotsKept (set views by w)
+  stays w keeps all known same owned =
       let mine = kept.each by v at in
       record {
         keeper = kept.keeper;
@@ -223,19 +214,24 @@ module _ (views : List SlotView) (kept : AreSlotsKept views) (by : ℕ) (v : Slo
             let before = kept.once slot in omega (arith, change, alike, before);
         free = λ slot unused. let change = held_set slot views by v w at in let alike = same slot in
             let before = kept.free slot unused in omega (arith, change, alike, before);
+        single = λ n. let change = owned_set n views by v w at in let alike = owned n in
+            let before = kept.single n in omega (arith, change, alike, before);
+        low = λ n above. let change = owned_set n views by v w at in let alike = owned n in
+            let before = kept.low n above in omega (arith, change, alike, before);
       }
 
   begins_kept : AreSlotsKept (set views by (begun v))
   begins_kept = stays (begun v) refl refl ((kept.all, refl), tt, (kept.each by v at).1) (λ slot. omega arith)
+      (λ n. omega arith)
 
   shows_kept : v.keeps ≡ true → AreSlotsKept (set views by (shown v))
   shows_kept keeps =
       let mine = kept.each by v at in
       stays (shown v) refl refl (shown_known kept.all v.all v.sights (mine.0 keeps).1 mine.1)
-      (λ slot. shown_held slot v.all v.sights)
+      (λ slot. shown_held slot v.all v.sights) (λ n. shown_owned n v.all v.sights)
 
   checks_kept : AreSlotsKept (set views by v)
-  checks_kept = stays v refl refl (kept.each by v at).1 (λ slot. omega arith)
+  checks_kept = stays v refl refl (kept.each by v at).1 (λ slot. omega arith) (λ n. omega arith)
 
   -- before the event no view but the first sight has its slot
   module _ (event : SlotEvent) (keeps : v.keeps ≡ true) (may : MayHappen event v.all (first_in v.sights).held) where
@@ -281,6 +277,15 @@ module _ (views : List SlotView) (kept : AreSlotsKept views) (by : ℕ) (v : Slo
     has_held : MayHaveSlot longer held
     has_held = subst (λ (list : List SlotEvent). MayHaveSlot list held) whole (after_event v.all event)
 
+    -- the numbers of the acquisitions that views have then
+    adds_owned : (n : ℕ) → owned_by n (set views by (added event v))
+        ≤ owned_by n views + newly n event (acquisitions kept.all)
+    adds_owned n =
+        let change = owned_set n views by v (added event v) at in
+        let more = added_owned n (v.all ++ event ∷ []) event (acquisitions v.all) v.sights in
+        let same = ap (λ (list : List SlotEvent). newly n event (acquisitions list)) fits.1 in
+        omega (arith, change, more, same)
+
     adds_each : (j : ℕ) (u : SlotView) → get_elem? (set views by (added event v)) j ≡ some u
         → FitsEvents kept.keeper longer j u
     adds_each = fits_set kept.keeper longer views by (added event v)
@@ -289,15 +294,17 @@ module _ (views : List SlotView) (kept : AreSlotsKept views) (by : ℕ) (v : Slo
           known_longer kept.all event u.sights (no_other event may j u apart there) other.1,
         )) (
           (λ _. (fits.0, whole)),
-          added_known kept.all (v.all ++ event ∷ []) event held v.sights whole has_held (no_rest event may)
+          added_known kept.all (v.all ++ event ∷ []) event (acquisitions v.all) v.sights whole has_held
+              (no_rest event may)
               (kept.each by v at).1,
         )
 
     -- what the view then holds of a slot
-    added_held : (slot : ℕ) (all : List SlotEvent) (next : Option Hold) (sights : List SlotSight)
-        → held_in slot (added_in all next sights) ≤ has_slot slot next + others slot sights
-    added_held slot all next [] = omega arith
-    added_held slot all next (one ∷ sights) = omega arith
+    added_held : (slot : ℕ) (all : List SlotEvent) (count : ℕ) (sights : List SlotSight)
+        → held_in slot (added_in all event count sights)
+        ≤ has_slot slot (held_after event count) + others slot sights
+    added_held slot all count [] = omega arith
+    added_held slot all count (one ∷ sights) = omega arith
 
     -- whatever the event, of its own slot and of each other
     once_by : (e : SlotEvent) → MayHappen e v.all (first_in v.sights).held → (slot : ℕ) (count : ℕ)
@@ -341,7 +348,7 @@ module _ (views : List SlotView) (kept : AreSlotsKept views) (by : ℕ) (v : Slo
         ≤ held_by slot views + has_slot slot held + others slot v.sights
     change_of slot =
         let change = held_set slot views by v (added event v) at in
-        let more = added_held slot (v.all ++ event ∷ []) held v.sights in omega (arith, change, more)
+        let more = added_held slot (v.all ++ event ∷ []) (acquisitions v.all) v.sights in omega (arith, change, more)
 
     adds_kept : AreSlotsKept (set views by (added event v))
     adds_kept = record {
@@ -351,6 +358,10 @@ module _ (views : List SlotView) (kept : AreSlotsKept views) (by : ℕ) (v : Slo
       once = λ slot. once_by event may slot (held_by slot (set views by (added event v))) (change_of slot);
       free = λ slot unused_then. free_by event may slot (held_by slot (set views by (added event v)))
           (sym (ap (λ (used : ℕ → Bool). used slot) (use_more kept.all event)) ∙ unused_then) (change_of slot);
+      single = λ n. let new = newly_single n event (acquisitions kept.all) (owned_by n views) (kept.low n)
+          (kept.single n) in let all = adds_owned n in omega (arith, new, all);
+      low = λ n above. let new = newly_low n event kept.all (owned_by n views) (kept.low n) above in
+          let all = adds_owned n in omega (arith, new, all);
     }
 
   cuts_kept : AreSlotsKept (set views by (left v) ++ given v ∷ [])
@@ -372,6 +383,10 @@ module _ (views : List SlotView) (kept : AreSlotsKept views) (by : ℕ) (v : Slo
             (at_snoc (set views by (left v)) (given v) u j there);
         once = λ slot. let same = count slot in let before = kept.once slot in omega (arith, same, before);
         free = λ slot unused. let same = count slot in let before = kept.free slot unused in omega (arith, same, before);
+        single = λ n. let same = cuts_owned n views by v at in let before = kept.single n in
+            omega (arith, same, before);
+        low = λ n above. let same = cuts_owned n views by v at in let before = kept.low n above in
+            omega (arith, same, before);
       }
 
   joins_kept : (other : ℕ) (w : SlotView) → other ≢ by → get_elem? (set views by (joined v w)) other ≡ some w
@@ -395,6 +410,10 @@ module _ (views : List SlotView) (kept : AreSlotsKept views) (by : ℕ) (v : Slo
             ((λ k. absurd (off k)), tt);
         once = λ slot. let same = count slot in let old = kept.once slot in omega (arith, same, old);
         free = λ slot unused. let same = count slot in let old = kept.free slot unused in omega (arith, same, old);
+        single = λ n. let same = joins_owned n views by other v w at there in let old = kept.single n in
+            omega (arith, same, old);
+        low = λ n above. let same = joins_owned n views by other v w at there in let old = kept.low n above in
+            omega (arith, same, old);
       }
 
 -- ---- what the table asks
@@ -409,6 +428,8 @@ opens words = record {
   each = one;
   once = λ slot. omega arith;
   free = λ slot unused. refl;
+  single = λ n. omega arith;
+  low = λ n above. refl;
 }
   where
     one : (by : ℕ) (v : SlotView) → get_elem? (slot_view true [] [] ∷ []) by ≡ some v → FitsEvents 0 [] by v
@@ -431,13 +452,14 @@ shows slots id me keeps state kept homes at bound = (
 )
 
 pub checks : (slots id : ℕ) (me : Me SlotEvent SlotView) → me.0.keeps ≡ true
-    → Allows holds slots id me 0 (λ n. n) (λ n after. (after ≡ me) × AreKnown me.0.all me.0.sights)
+    → Allows holds slots id me 0 (λ n. n) (λ n after. (after ≡ me) × AreKnown me.0.all me.0.sights
+    × ((number : ℕ) → owned_in number me.0.sights ≤ 1))
 checks slots id me keeps state kept homes at bound = (
   me.0,
   table.keeps,
   tt,
   checks_kept state.views kept id me.0 at,
-  (refl, tells state.views kept id me.0 at keeps),
+  (refl, tells state.views kept id me.0 at keeps, tells_single state.views kept id me.0 at),
 )
 
 pub adds : (slots id : ℕ) (me : Me SlotEvent SlotView) (f : ℕ → ℕ) (event : SlotEvent) → me.0.keeps ≡ true

@@ -1,6 +1,6 @@
 -- What a connection has seen of a publisher, and what it is answered under the lock: PostgreSQL 15, "Logical
 -- Replication", 31.2.1 Replication Slot Management, and 55.4. Streaming Replication Protocol.
-use Rattle.std.specs.Prelude.{◌≡◌, ℕ, ◌+◌, List, [], ◌∷◌, ◌++◌, length, false, Option, Some, None}
+use Rattle.std.specs.Prelude.{◌≡◌, ℕ, ◌+◌, ◌≤◌, List, [], ◌∷◌, ◌++◌, length, false, Option, Some, None}
 use Rattle.shard_checker.specs.CheckedView.{CheckedOf, setting_in}
 use Rattle.table_changes.specs.Tables.{no_rows}
 use Rattle.tables_log.specs.BookView.{book_slots}
@@ -11,7 +11,7 @@ use Rattle.tables_log.specs.declared.book.Book.{Book}
 use Rattle.tables_log.specs.declared.slots.Slot.{Slot}
 use Rattle.publisher_desk.specs.Lending.{IsLent}
 use Rattle.publisher_desk.specs.Receipts.{ReceiptOf, transactions_of}
-use Rattle.publisher_desk.specs.Sights.{Sees, StartsWith}
+use Rattle.publisher_desk.specs.Sights.{Sees, StartsWith, times}
 use Rattle.publisher_desk.specs.SlotEvents.{LeaveAlone, acquisitions, use_after}
 use Rattle.publisher_desk.specs.SlotSights.{AddsEvent, BeginsWith, SeesEvents, hold}
 use Rattle.publisher_desk.specs.declared.connection_state.ConnectionState.{ConnectionState}
@@ -23,16 +23,17 @@ use Rattle.publisher_desk.specs.declared.slot_event.SlotEvent.TheVariants.{Acqui
 use Rattle.publisher_desk.specs.declared.slot_sight.Hold.{Hold}
 use Rattle.publisher_desk.specs.declared.slot_sight.SlotSight.{SlotSight}
 
--- The beginning of the log that a connection has seen, as receipts; the first events of slots, which it has seen; and
--- the slot that it has.
+-- The beginning of the log that a connection has seen, as receipts; the first events of slots, which it has seen; the
+-- slot that it has; and the numbers of its own acquisitions.
 pub record ViewerOf : Type 0 where
   pub seen : List ReceiptOf
   pub events : List SlotEvent
   pub held : Option Hold
+  pub own : List ℕ
 
 -- a connection that has seen nothing
 abbrev pub new_viewer : ViewerOf
-new_viewer = record { seen = []; events = []; held = None }
+new_viewer = record { seen = []; events = []; held = None; own = [] }
 
 -- It has seen what it had seen, and perhaps more.
 pub record SeesMore (old new : ViewerOf) : Type 0 where
@@ -109,13 +110,15 @@ pub record Holds (held : Option Hold) (slot : ℕ) : Type 0 where
   pub held_is : held ≡ Some mine
   pub slot_is : mine.acquisition.slot ≡ slot
 
--- It has released the slot that it had, which is then free. It has seen the log as it was then.
+-- It has released the slot that it had, which is then free. The acquisition is its own. It has seen the log as it was
+-- then.
 pub record HasReleased (old new : ViewerOf) : Type 0 where
   pub mine : Hold
   pub was : old.held ≡ Some mine
   pub had : HadSlot new.events mine (length new.seen)
   pub free : use_after new.events mine.acquisition.slot ≡ false
   pub none : new.held ≡ None
+  pub own : 1 ≤ times mine.number new.own
 
 -- ---- a publisher that is being closed
 
@@ -129,6 +132,10 @@ pub record ClosingOf : Type 0 where
 pub record IsSeenIn (closing : ClosingOf) (viewer : ViewerOf) : Type 0 where
   pub log : StartsWith closing.log viewer.seen
   pub slots : BeginsWith closing.events viewer.events
+
+-- No acquisition belongs to both connections.
+abbrev pub ShareNoAcquisition : ViewerOf → ViewerOf → Type 0
+ShareNoAcquisition one other = (number : ℕ) → times number one.own + times number other.own ≤ 1
 
 -- ---- under the lock
 

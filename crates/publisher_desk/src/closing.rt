@@ -58,7 +58,7 @@ impl<P: Publishing> Closing<P> {
     ghost use Rattle.publisher_desk.specs.Receipts.{transactions_of};
     ghost use Rattle.publisher_desk.specs.Sights.{StartsWith};
     ghost use Rattle.publisher_desk.specs.SlotEvents.{acquisitions, use_after};
-    ghost use Rattle.publisher_desk.specs.Viewers.{IsSeenIn};
+    ghost use Rattle.publisher_desk.specs.Viewers.{IsSeenIn, ShareNoAcquisition};
 
     /// What memory is taken from.
     pub fn allocator(&self) -> Global {
@@ -101,6 +101,19 @@ impl<P: Publishing> Closing<P> {
         let Viewer { token, slots: mine } = viewer;
         history.compare(token);
         slots.compare(mine);
+    }
+
+    /// Establishes that no acquisition of a slot belongs to both connections.
+    pub fn compare(&mut self, viewer: &mut Viewer<P>, other: &mut Viewer<P>)
+        ensures apart { ShareNoAcquisition viewer.old other.old }
+        ensures same { self.new ≡ self.old }
+        ensures viewer { viewer.new ≡ viewer.old }
+        ensures other { other.new ≡ other.old }
+    {
+        let Closing { slots, .. } = self;
+        let Viewer { slots: mine, .. } = viewer;
+        let Viewer { slots: theirs, .. } = other;
+        slots.compare_two(mine, theirs);
     }
 
     /// Establishes that what the seat has seen is a beginning of the log.

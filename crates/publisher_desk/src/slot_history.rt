@@ -13,7 +13,7 @@ use std::marker::{Model, PhantomData};
 use std::sync::ledger::Total;
 
 /// What a connection knows of the slots. It takes no bytes. Contracts see it as the first events, which the connection
-/// has seen, and the slot that it has.
+/// has seen, the slot that it has, and the numbers of its own acquisitions.
 #[derive(Drop)]
 pub(crate) struct SlotToken<P: Publishing> {
     seat: Seat<SlotEvent, SlotView>,
@@ -57,9 +57,10 @@ impl<P: Publishing> Model for SlotHistory<P> {
 }
 
 impl<P: Publishing> SlotHistory<P> {
-    ghost use Rattle.std.specs.Prelude.{◌≡◌, ◌+◌, ◌<◌, [], ◌∷◌, ◌++◌, length, true, IfSome};
+    ghost use Rattle.std.specs.Prelude.{◌≡◌, ◌+◌, ◌<◌, ◌≤◌, ℕ, [], ◌∷◌, ◌++◌, length, true, IfSome};
+    ghost use Rattle.publisher_desk.specs.Sights.{times};
     ghost use Rattle.publisher_desk.specs.SlotEvents.{acquisitions};
-    ghost use Rattle.publisher_desk.specs.SlotSights.{AddsEvent, AreKnown, BeginsWith, MayHappen, SeesEvents, added, first_in, left, shown, slot_sight_of, slot_view};
+    ghost use Rattle.publisher_desk.specs.SlotSights.{AddsEvent, AreKnown, BeginsWith, MayHappen, SeesEvents, added, first_in, left, owned_in, shown, slot_sight_of, slot_view};
     ghost use Rattle.publisher_desk.specs.declared.slot_event.SlotEvent.TheVariants.{Acquired, Released};
 
     /// A history without events.
@@ -149,10 +150,12 @@ impl<P: Publishing> SlotHistory<P> {
         table.shared.load::<ShowsSlots>(keeper, 0);
     }
 
-    /// Establishes that the sights that were taken in agree with the events.
+    /// Establishes that the sights that were taken in agree with the events, and that none of them has an acquisition
+    /// of another.
     fn check(&mut self)
         ensures same { self.new ≡ self.old }
         ensures known { AreKnown self.old.all self.old.sights }
+        ensures single { (number : ℕ) → owned_in number self.old.sights ≤ 1 }
     {
         let SlotHistory {
             table,
@@ -223,6 +226,26 @@ impl<P: Publishing> SlotHistory<P> {
         self.take_in(token);
         self.check();
         *token = Some(self.give_back());
+    }
+
+    /// Establishes that no acquisition belongs to both connections, which know no more than before.
+    pub(crate) fn compare_two(
+        &mut self,
+        one: &mut Option<SlotToken<P>>,
+        other: &mut Option<SlotToken<P>>,
+    )
+        requires idle { self.old ≡ slot_view true self.old.all [] }
+        ensures log { self.new ≡ self.old }
+        ensures single { (number : ℕ)
+            → times number (slot_sight_of one.old).own + times number (slot_sight_of other.old).own ≤ 1 }
+        ensures same { slot_sight_of one.new ≡ slot_sight_of one.old }
+        ensures other { slot_sight_of other.new ≡ slot_sight_of other.old }
+    {
+        self.take_in(one);
+        self.take_in(other);
+        self.check();
+        *other = Some(self.give_back());
+        *one = Some(self.give_back());
     }
 
     /// Shows the events to the connection.

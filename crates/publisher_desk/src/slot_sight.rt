@@ -13,11 +13,12 @@ pub struct Hold {
     pub number: u64,
 }
 
-/// The first events that a connection has seen, and the slot that it has, if it has one. It is only for proofs: no
-/// value of it is made.
+/// The first events that a connection has seen, the slot that it has, if it has one, and the numbers of its own
+/// acquisitions. It is only for proofs: no value of it is made.
 pub struct SlotSight {
     pub events: LinkedList<SlotEvent>,
     pub held: Option<Hold>,
+    pub own: LinkedList<u64>,
 }
 
 /// What one token knows: whether it is the one that has all events, the events, and the sights that it has taken in. It
@@ -60,14 +61,16 @@ impl Play<SlotEvent, SlotView> for ShowsSlots {
     ghost then = { λ _ before _ after. (after ≡ (shown before.0, before.1)) × AreKnown before.0.all before.0.sights };
 }
 
-/// A step that changes nothing, and shows that the sights that were taken in agree with the events.
+/// A step that changes nothing, and shows that the sights that were taken in agree with the events, and that none of
+/// them has an acquisition of another.
 pub struct ChecksSlots;
 
 impl Play<SlotEvent, SlotView> for ChecksSlots {
-    ghost use Rattle.std.specs.Prelude.{◌≡◌};
-    ghost use Rattle.publisher_desk.specs.SlotSights.{AreKnown};
+    ghost use Rattle.std.specs.Prelude.{◌≡◌, ◌≤◌, ℕ};
+    ghost use Rattle.publisher_desk.specs.SlotSights.{AreKnown, owned_in};
 
-    ghost then = { λ _ before _ after. (after ≡ before) × AreKnown before.0.all before.0.sights };
+    ghost then = { λ _ before _ after. (after ≡ before) × AreKnown before.0.all before.0.sights
+        × ((number : ℕ) → owned_in number before.0.sights ≤ 1) };
 }
 
 /// A step that adds the event that it announces, of the sight that was taken in last.

@@ -8,7 +8,7 @@ use crate::slot_history::SlotToken;
 use std::marker::Model;
 
 /// What a connection knows of a publisher, for proofs: it takes no bytes. Contracts see the beginning of the log and
-/// the events of slots that the connection has seen, and the slot that it has.
+/// the events of slots that the connection has seen, the slot that it has, and the numbers of its own acquisitions.
 #[derive(Drop)]
 pub struct Viewer<P: Publishing> {
     /// None before it is shown the log for the first time.
@@ -18,7 +18,7 @@ pub struct Viewer<P: Publishing> {
 
 impl<P: Publishing> Model for Viewer<P> {
     ghost use Rattle.publisher_desk.specs.Sights.{sight_of};
-    ghost use Rattle.publisher_desk.specs.SlotSights.{MayHaveSlot, slot_sight_of};
+    ghost use Rattle.publisher_desk.specs.SlotSights.{MayHaveSlot, OwnsHeld, slot_sight_of};
     ghost use Rattle.publisher_desk.specs.Viewers.{IsAcceptedLog, ViewerOf};
 
     ghost Value = { ViewerOf };
@@ -27,9 +27,11 @@ impl<P: Publishing> Model for Viewer<P> {
       seen = (sight_of v.token).seen;
       events = (slot_sight_of v.slots).events;
       held = (slot_sight_of v.slots).held;
+      own = (slot_sight_of v.slots).own;
     } };
 
     ghost invariant = { λ v. MayHaveSlot (slot_sight_of v.slots).events (slot_sight_of v.slots).held
+        × OwnsHeld (slot_sight_of v.slots).held (slot_sight_of v.slots).own
         × IsAcceptedLog P.checked (sight_of v.token).seen };
 }
 

@@ -8,13 +8,13 @@ use Rattle.tables_log.specs.Lsn.{commits_before, end_lsn_of}
 use Rattle.copy_both.specs.VoiceLaws.{AreAt}
 use Rattle.copy_both.proofs.StartBounds.{start_within}
 use Rattle.publisher_desk.specs.Receipts.{ReceiptOf, transaction_of}
-use Rattle.publisher_desk.specs.Sights.{StartsWith}
+use Rattle.publisher_desk.specs.Sights.{StartsWith, times}
 use Rattle.publisher_desk.specs.SlotEvents.{use_after}
 use Rattle.publisher_desk.specs.SlotSights.{hold}
-use Rattle.publisher_desk.specs.Viewers.{HadSlot, Holds, IsAcceptedLog, SeesMore, ViewerOf, log_seen, new_viewer}
+use Rattle.publisher_desk.specs.Viewers.{HadSlot, Holds, IsAcceptedLog, SeesMore, ShareNoAcquisition, ViewerOf, log_seen, new_viewer}
 use Rattle.publisher_desk.specs.declared.slot_sight.Hold.{Hold}
 use Rattle.senders.specs.Listening.{HasListened, HoldsStream}
-use Rattle.senders.specs.Results.{HadStream, IsWitnessed, acquisition, books_seen, commits_of, served_of}
+use Rattle.senders.specs.Results.{AcquiredApart, HadStream, IsWitnessed, ServedOf, acquisition, books_seen, commits_of, served_of}
 use Rattle.senders.specs.Running.{EndedAtOnce, ReleasesIf, ServesOut, Streamed, Unstarted}
 use Rattle.senders.specs.Serving.{IsServed}
 use Rattle.senders.specs.declared.listener.Listener.{Listener}
@@ -52,6 +52,7 @@ witnessed_unstarted checked last outcome is_requested confirmed number accepted 
       (sym no_start) unnumbered);
   free = λ slot some. absurd (let other : None ≡ Some slot = sym no_slot ∙ some in cc);
   none = unheld;
+  own = λ start some. absurd (let other : None ≡ Some start = sym no_start ∙ some in cc);
 }
 
 pub witnessed_nothing : (checked : CheckedOf) (outcome : Outcome) → outcome.slot ≡ None → outcome.start ≡ None
@@ -92,6 +93,9 @@ module _ (checked : CheckedOf) (now between last sender : ViewerOf) (left now_le
   had_stream released =
       subst (λ (mine : Hold). HadSlot last.events mine (length last.seen)) (its_hold released) released.0.had
 
+  its_own : ReleasesIf (Some ends.slot) between last → 1 ≤ times number last.own
+  its_own released = subst (λ (mine : Hold). 1 ≤ times mine.number last.own) (its_hold released) released.0.own
+
   its_released : ReleasesIf outcome.slot between last → ReleasesIf (Some ends.slot) between last
   its_released released = subst (λ (slot : Option ℕ). ReleasesIf slot between last) ends.slot_is released
 
@@ -120,7 +124,17 @@ module _ (checked : CheckedOf) (now between last sender : ViewerOf) (left now_le
         last.events) (sym ends.start_is) (had_stream (its_released released)));
     free = freed released;
     none = (its_released released).0.none;
+    own = λ start some. its_own (its_released released);
   }
+
+-- ---- two connections
+
+pub are_apart : (checked : CheckedOf) (one other : ServedOf) → IsWitnessed checked one → IsWitnessed checked other
+    → ShareNoAcquisition one.viewer other.viewer → AcquiredApart one other
+are_apart checked one other mine theirs apart start next started next_started same =
+    let first = mine.own start started in
+    let second = subst (λ (number : ℕ). 1 ≤ times number other.viewer.own) (sym same) (theirs.own next next_started) in
+    let both = apart one.number in omega (arith, first, second, both)
 
 -- ---- either
 

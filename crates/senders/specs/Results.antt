@@ -1,6 +1,6 @@
 -- What contracts see of the result of a connection: the stream that it started, the commits that were taken for it, and
 -- what it has seen of its publisher: PostgreSQL 15, 55.4. Streaming Replication Protocol.
-use Rattle.std.specs.Prelude.{◌≡◌, ℕ, ◌≤◌, Bool, false, List, length, map, unwrap_or, Option, Some, None}
+use Rattle.std.specs.Prelude.{◌≡◌, ◌≢◌, ℕ, ◌≤◌, Bool, false, List, length, map, unwrap_or, Option, Some, None}
 use Rattle.std.specs.Arc.{arc_value}
 use Rattle.shard_checker.specs.CheckedView.{CheckedOf}
 use Rattle.tables_log.specs.Commits.{CommitOf}
@@ -8,6 +8,7 @@ use Rattle.tables_log.specs.Lsn.{commits_before}
 use Rattle.copy_both.specs.HeardFrames.{BooksOf}
 use Rattle.copy_both.specs.VoiceLaws.{AreAt}
 use Rattle.publisher_desk.specs.Receipts.{transactions_of}
+use Rattle.publisher_desk.specs.Sights.{times}
 use Rattle.publisher_desk.specs.SlotEvents.{use_after, uses_in}
 use Rattle.publisher_desk.specs.SlotSights.{hold}
 use Rattle.publisher_desk.specs.Viewers.{HadSlot, IsAcceptedLog, ViewerOf, log_seen}
@@ -16,8 +17,8 @@ use Rattle.publisher_desk.specs.declared.slot_event.SlotEvent.{SlotEvent}
 use Rattle.senders.specs.declared.end.End.{End}
 use Rattle.senders.specs.declared.outcome.Outcome.{Outcome}
 
--- `confirmed` is the last position up to which its client confirmed the log, 0 if there is none. `number` is that of
--- the acquisition of its slot, from 1; 0 if it started no stream.
+-- `confirmed` is a position that a status of its client confirms, or 0. `number` is that of the acquisition of its
+-- slot, from 1; 0 if it started no stream.
 pub record ServedOf : Type 0 where
   pub slot : Option ℕ
   pub start : Option ℕ
@@ -66,7 +67,8 @@ HadStream (Some slot) None is_requested number commits events = ⊥
 HadStream None (Some start) is_requested number commits events = ⊥
 
 -- The commits that were taken for it are those of the log that it has seen, from its start on, which is not after that
--- log's end. It had its slot, and that log is the one as of the release. Then the slot was free, and it has no other.
+-- log's end. It had its slot, by an acquisition of its own, and that log is the one as of the release. Then the slot
+-- was free, and it has no other.
 pub record IsWitnessed (checked : CheckedOf) (served : ServedOf) : Type 0 where
   pub accepted : IsAcceptedLog checked served.viewer.seen
   pub within : taken_from served ≤ length served.viewer.seen
@@ -75,3 +77,9 @@ pub record IsWitnessed (checked : CheckedOf) (served : ServedOf) : Type 0 where
       served.viewer.events
   pub free : (slot : ℕ) → served.slot ≡ Some slot → use_after served.viewer.events slot ≡ false
   pub none : served.viewer.held ≡ None
+  pub own : (start : ℕ) → served.start ≡ Some start → 1 ≤ times served.number served.viewer.own
+
+-- If both started a stream, these did not acquire their slots by the same acquisition.
+abbrev pub AcquiredApart : ServedOf → ServedOf → Type 0
+AcquiredApart one other = (start next : ℕ) → one.start ≡ Some start → other.start ≡ Some next
+    → one.number ≢ other.number

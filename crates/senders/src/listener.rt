@@ -27,7 +27,8 @@ const PIECE: usize = 16_384;
 
 /// An ear, and the piece that it hears next: the first `filled` bytes; whether the client requested the position where
 /// the stream starts, which is after what was confirmed for the slot; the number of the acquisition of its slot, 0 if
-/// no stream was started; and the last position up to which the client confirmed the log, 0 if it confirmed nothing.
+/// no stream was started; and the position to which the client last moved what is confirmed for the slot, 0 if it moved
+/// it no further.
 #[derive(Drop)]
 pub struct Listener {
     ear: Ear,
@@ -189,7 +190,7 @@ impl Listener {
         self.is_requested
     }
 
-    /// The last position up to which its client confirmed the log; 0 if it confirmed nothing.
+    /// The position to which its client last moved what is confirmed for the slot; 0 if it moved it no further.
     pub(crate) fn confirmed(&self) -> u64
         ensures { result ≡ self.now.confirmed }
     {

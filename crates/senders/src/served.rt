@@ -11,8 +11,9 @@ use std::marker::Model;
 use std::sync::Arc;
 use tables_log::{Commit, SlotNumber};
 
-/// The result of a connection that was served. The commits that were taken for it are those of its publisher's log from
-/// its start on, and it had the slot of its stream until it released it. Contracts see it as `ServedOf`.
+/// The result of a connection that was served. The commits that were taken for it are consecutive commits of its
+/// publisher's log from its start on, and it had the slot of its stream until it released it. Contracts see it as
+/// `ServedOf`.
 #[derive(Drop)]
 pub struct Served<P: Publishing> {
     outcome: Outcome,
@@ -37,7 +38,7 @@ impl<P: Publishing> Served<P> {
     ghost use Rattle.std.specs.Prelude.{◌≡◌, map};
     ghost use Rattle.std.specs.Arc.{arc_value};
     ghost use Rattle.publisher_desk.specs.Viewers.{IsSeenIn};
-    ghost use Rattle.senders.specs.Results.{IsWitnessed, served_of};
+    ghost use Rattle.senders.specs.Results.{AcquiredApart, IsWitnessed, served_of};
 
     /// The result of a connection that has released its slot, if it had one, with the number of its acquisition, or 0.
     pub(crate) fn new(
@@ -81,7 +82,7 @@ impl<P: Publishing> Served<P> {
         self.is_requested
     }
 
-    /// The commits that were taken for it, in order: those of its publisher's log from its start on.
+    /// The commits that were taken for it, in order: consecutive commits of its publisher's log from its start on.
     pub fn taken(&self) -> &[Arc<Commit, Global>]
         ensures shows { map (λ commit. arc_value commit) result.now ≡ self.now.taken }
         ensures witnessed { IsWitnessed P.checked self.now }
@@ -96,7 +97,8 @@ impl<P: Publishing> Served<P> {
         self.outcome.end
     }
 
-    /// The last position up to which its client confirmed the log, in bytes; 0 if it confirmed nothing.
+    /// The position to which its client last moved what is confirmed for the slot, in bytes of the log; 0 if it moved
+    /// it no further.
     pub fn confirmed(&self) -> u64
         ensures { result ≡ self.now.confirmed }
     {
@@ -119,5 +121,16 @@ impl<P: Publishing> Served<P> {
         ensures closing { closing.new ≡ closing.old }
     {
         closing.check(&mut self.viewer);
+    }
+
+    /// Establishes that the streams of two connections did not acquire their slots by the same acquisition, whether
+    /// they are passed to `close` or not.
+    pub fn compare(&mut self, closing: &mut Closing<P>, other: &mut Served<P>)
+        ensures apart { AcquiredApart self.old other.old }
+        ensures same { self.new ≡ self.old }
+        ensures other { other.new ≡ other.old }
+        ensures closing { closing.new ≡ closing.old }
+    {
+        closing.compare(&mut self.viewer, &mut other.viewer);
     }
 }

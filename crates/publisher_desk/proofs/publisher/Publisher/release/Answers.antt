@@ -8,8 +8,9 @@ use Rattle.publisher_desk.proofs.publisher.Publisher.release.Goals as goal
 pub returns-clause-released : goal.returns-clause-released
 returns-clause-released g c =
     has_released c.args.slot c.args.viewer.now _ (slot_sight_of c.viewer.inside.slots)
-    (slot_sight_of c.release.new.slots) (ap (λ (v : ViewerOf). v.held) (sym c.viewer.view_is)) refl refl
-    (subst (λ (v : ViewerOf). Holds v.held c.args.slot) (sym c.viewer.view_is) c.requires) c.release.ensures.released
+    (slot_sight_of c.release.new.slots) (ap (λ (v : ViewerOf). v.held) (sym c.viewer.view_is)) refl refl refl
+    (subst (λ (v : ViewerOf). Holds v.held c.args.slot) (sym c.viewer.view_is) c.requires) c.viewer.invariant.1
+    c.release.ensures.released
 
 pub returns-clause-more : goal.returns-clause-more
 returns-clause-more g c =

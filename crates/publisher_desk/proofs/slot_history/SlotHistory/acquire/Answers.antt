@@ -2,7 +2,7 @@ use Rattle.std.proofs.Common.{◌++◌, ◌∷◌, [], ap, sym, ◌∙◌}
 use Rattle.publisher_desk.specs.SlotEvents.{acquisitions}
 use Rattle.publisher_desk.specs.declared.slot_event.SlotEvent.TheVariants.{Acquired}
 use Rattle.publisher_desk.specs.declared.slot_sight.SlotView.{SlotView}
-use Rattle.publisher_desk.proofs.SlotsKept.{acquired_count}
+use Rattle.publisher_desk.proofs.OwnLemmas.{acquired_count}
 use Rattle.publisher_desk.proofs.slot_history.SlotHistory.acquire.Goals as goal
 
 pub add-requires-clause-count : goal.add-requires-clause-count

@@ -2,7 +2,7 @@ use Rattle.std.proofs.Common.{◌++◌, ◌∷◌, [], ap, sym, ◌∙◌}
 use Rattle.publisher_desk.specs.SlotEvents.{acquisitions}
 use Rattle.publisher_desk.specs.declared.slot_event.SlotEvent.TheVariants.{Released}
 use Rattle.publisher_desk.specs.declared.slot_sight.SlotView.{SlotView}
-use Rattle.publisher_desk.proofs.SlotsKept.{released_count}
+use Rattle.publisher_desk.proofs.OwnLemmas.{released_count}
 use Rattle.publisher_desk.proofs.slot_history.SlotHistory.release.Goals as goal
 
 pub add-requires-clause-count : goal.add-requires-clause-count
