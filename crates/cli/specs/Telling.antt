@@ -42,6 +42,7 @@ name_of e.ReadingWrong = Some (codes "ReadingWrong")
 name_of e.TakenDiffers = Some (codes "TakenDiffers")
 name_of e.ConnectionMissing = Some (codes "ConnectionMissing")
 name_of e.StartLate = Some (codes "StartLate")
+name_of e.StartEarly = Some (codes "StartEarly")
 name_of e.OutOfMemory = None
 
 -- What is served: a checked catalog, with a log of at most `limit` commits, by a session that commits these lists, to

@@ -27,8 +27,8 @@ use Rattle.publisher_desk.specs.Seats.{SeatOf, receipts, IsForwardSeat, IsTimedS
 use Rattle.publisher_desk.specs.declared.note.Note.{Note}
 use Rattle.publisher_desk.specs.declared.note.Note.TheVariants.{Committed, Looked}
 use Rattle.publisher_desk.specs.declared.note.Reading.{Reading}
-use Rattle.senders.specs.CloseCauses.{CanCome, HasOtherTaken, HasWrongReading, IsCloseCause, IsExplainedBy, IsMissing, IsNotLogged, IsRepeated}
-use Rattle.senders.specs.CloseReasons.{IsReasonToRefuse, RefusedClose}
+use Rattle.senders.specs.CloseCauses.{CanCome, HasOtherTaken, HasStarts, HasWrongReading, IsCloseCause, IsExplainedBy, IsMissing, IsNotLogged, IsRepeated}
+use Rattle.senders.specs.CloseReasons.{IsReasonToRefuse, RefusedClose, StartsAre}
 use Rattle.senders.specs.Closing.{IsClosed}
 use Rattle.publisher_desk.specs.Logged.{AreSeatsIn, RiseTo}
 use Rattle.publisher_desk.specs.SlotEvents.{acquisitions, no_use}
@@ -36,9 +36,9 @@ use Rattle.publisher_desk.specs.Viewers.{ClosingOf, IsSeenIn, log_seen}
 use Rattle.senders.specs.Gathering.{receipts_in, all_receipts, all_readings, numbers_of, IsRisingSeat}
 use Rattle.senders.specs.Histories.{AreInOrder, AreWitnessed, IsLogOfSeats, IsRight}
 use Rattle.senders.specs.Replays.{IsAsLong, IsConfirmedAs, IsUnlikeIn, Replays}
-use Rattle.senders.specs.Reached.{AreReached, IsOrder, LacksConnection}
+use Rattle.senders.specs.Reached.{AreReached, AreResumed, IsOrder, LacksConnection}
 use Rattle.senders.specs.Results.{ServedOf}
-use Rattle.senders.specs.Starts.{AreInTime, IsStartCause}
+use Rattle.senders.specs.Starts.{AreInTime, AreOrdered, IsStartCause}
 use Rattle.senders.specs.TakenCommits.{IsTaken, IsWhole}
 use Rattle.senders.specs.declared.close_error.CloseError.{CloseError}
 use Rattle.senders.specs.declared.close_error.CloseError.TheVariants as f
@@ -140,6 +140,7 @@ unlike_cause book acquired seats served order f.ReadingWrong ordered long unlike
 unlike_cause book acquired seats served order f.TakenDiffers ordered long unlike = absurd unlike
 unlike_cause book acquired seats served order f.ConnectionMissing ordered long unlike = absurd unlike
 unlike_cause book acquired seats served order f.StartLate ordered long unlike = absurd unlike
+unlike_cause book acquired seats served order f.StartEarly ordered long unlike = absurd unlike
 unlike_cause book acquired seats served order f.OutOfMemory ordered long unlike = tt
 
 module _ (book fresh : Book) (seats : List SeatOf) (order : List ReceiptOf) (ordered : AreInOrder seats order)
@@ -177,10 +178,24 @@ module _ (book fresh : Book) (seats : List SeatOf) (order : List ReceiptOf) (ord
 
     module _ (closing : ClosingOf) (told : AreWitnessed (book_checked book) closing acquired seats served book)
         (whole : All (IsWhole (book_log book)) served) where
+      has_starts : (so : ℕ → List ServedOf → Type 0)
+          → AreOrdered (length (book_checked book).catalog.subscriptions) acquired served so
+          → HasStarts book acquired seats served so
+      unfolding explained_by
+      has_starts so cause = record {
+        order = order;
+        explained = explained_by;
+        right = right;
+        taken = taken_all book closing acquired seats served told whole;
+        starts = cause.starts;
+        ordered = cause.ordered;
+        are = cause.are;
+      }
+
       start_cause : (error : CloseError)
           → IsStartCause (length (book_checked book).catalog.subscriptions) acquired served error
           → IsCloseCause book acquired seats served error
-      unfolding explained_by
+      unfolding explained_by has_starts
       start_cause f.CountDiffers cause = absurd cause
       start_cause f.ReceiptMissing cause = absurd cause
       start_cause f.ReadingWrong cause = absurd cause
@@ -192,15 +207,9 @@ module _ (book fresh : Book) (seats : List SeatOf) (order : List ReceiptOf) (ord
         taken = taken_all book closing acquired seats served told whole;
         missing = cause;
       }
-      start_cause f.StartLate cause = record {
-        order = order;
-        explained = explained_by;
-        right = right;
-        taken = taken_all book closing acquired seats served told whole;
-        starts = cause.starts;
-        ordered = cause.ordered;
-        late = cause.late;
-      }
+      start_cause f.StartLate cause = has_starts (λ slots starts. ¬ AreReached slots starts) cause
+      start_cause f.StartEarly cause =
+          has_starts (λ slots starts. AreReached slots starts × ¬ AreResumed slots starts) cause
       start_cause f.OutOfMemory cause = tt
 
       is_closed : AreInTime (length (book_checked book).catalog.subscriptions) acquired served
@@ -235,6 +244,7 @@ module _ (book fresh : Book) (seats : List SeatOf) (order : List ReceiptOf) (ord
             starts = times.starts;
             ordered_starts = subst (λ n. IsOrder n served times.starts) told.count times.ordered;
             reached = times.reached;
+            resumed = times.resumed;
           }
 
 -- ---- what is compared, where lists are seen as slices
@@ -386,10 +396,23 @@ module _ (checked : CheckedOf) (limit all left : ℕ) (closing : ClosingOf) (sea
   }
 
   module _ (acquired : ℕ) (acquired_is : acquired ≡ acquisitions closing.events) where
+    starts_are : (so : ℕ → List ServedOf → Type 0) → HasStarts book acquired seats served so
+        → StartsAre checked closing seats served so
+    unfolding long log_is
+    starts_are so cause = record {
+      before = record {
+        count = sym long ∙ explained_count book seats cause.order cause.explained;
+        taken = subst (λ (log : List CommitOf). All (IsTaken log) served) log_is cause.taken;
+      };
+      starts = cause.starts;
+      ordered = subst (λ (n : ℕ). IsOrder n served cause.starts) acquired_is cause.ordered;
+      are = subst (λ (one : CheckedOf). so (length one.catalog.subscriptions) cause.starts) named cause.are;
+    }
+
     -- the reasons that the comparisons found, of which two cannot come
     reason : (error : CloseError) → IsCloseCause book acquired seats served error → CanCome error
         → IsReasonToRefuse checked all left closing seats served error
-    unfolding long log_is held_back
+    unfolding long log_is held_back starts_are
     reason f.CountDiffers cause can = ((λ same. cause (long ∙ same)), held_back cause)
     reason f.ReceiptMissing cause can = can
     reason f.ReadingWrong cause can = can
@@ -404,16 +427,9 @@ module _ (checked : CheckedOf) (limit all left : ℕ) (closing : ClosingOf) (sea
       };
       missing = subst (λ (n : ℕ). LacksConnection n served) acquired_is cause.missing;
     }
-    reason f.StartLate cause can = record {
-      before = record {
-        count = sym long ∙ explained_count book seats cause.order cause.explained;
-        taken = subst (λ (log : List CommitOf). All (IsTaken log) served) log_is cause.taken;
-      };
-      starts = cause.starts;
-      ordered = subst (λ (n : ℕ). IsOrder n served cause.starts) acquired_is cause.ordered;
-      late = subst (λ (one : CheckedOf). ¬ AreReached (length one.catalog.subscriptions) cause.starts) named
-          cause.late;
-    }
+    reason f.StartLate cause can = starts_are (λ slots starts. ¬ AreReached slots starts) cause
+    reason f.StartEarly cause can =
+        starts_are (λ slots starts. AreReached slots starts × ¬ AreResumed slots starts) cause
     reason f.OutOfMemory cause can = tt
 
     pub refused_as_named : (gathered : List SeatOf) (shown : List ServedOf) (error : CloseError) → gathered ≡ seats

@@ -14,6 +14,7 @@ pub mod NumberLemmas
 pub mod ReachLemmas
 pub mod RefusedLemmas
 pub mod ReplayLemmas
+pub mod ResumeLemmas
 pub mod Rules
 pub mod SeenLogs
 pub mod SendingLemmas

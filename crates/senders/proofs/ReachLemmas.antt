@@ -1,13 +1,14 @@
 -- How far the commits of a slot are accounted for, connection by connection in the order of their numbers.
-use Rattle.std.proofs.Common.{◌≡◌, ◌≢◌, ℕ, ◌+◌, ◌<◌, ◌≤◌, max, true, false, List, [], ◌∷◌, ◌++◌, inl, inr, length, map, get_or, take, drop, refl, sym, ap, subst, ◌∙◌, arith, ltb, length-append, append_assoc}
+use Rattle.std.proofs.Common.{◌≡◌, ◌≢◌, Bor, ℕ, ◌+◌, ◌<◌, ◌≤◌, max, true, false, List, [], ◌∷◌, ◌++◌, inl, inr, length, map, get_or, take, drop, refl, sym, ap, subst, ◌∙◌, arith, ltb, length-append, append_assoc}
 use Rattle.std.proofs.lemmas.Bool.{ltb-true, ltb-false}
 use Rattle.std.proofs.lemmas.List.{get_or-map, length-map, take-append-drop}
 use Rattle.std.proofs.lemmas.List.Elements.{All-contains, All-nil, All-push, All-weaker, Contains-append_left, Contains-push, Contains-push_cases}
 use Rattle.std.proofs.lemmas.List.FromFn.{length-range_with_len}
 use Rattle.std.specs.List.{range_with_len}
+use Rattle.std.specs.List.Sorted.{IsPermutation}
 use Rattle.std.specs.Prelude.{All, Contains, Some, slice_get}
 use Rattle.filter_tree.proofs.Tests.{by_test}
-use Rattle.senders.specs.Reached.{Accounts, Confirms, Requests, IsAccounted, IsReached, numbers_in}
+use Rattle.senders.specs.Reached.{Accounts, Confirms, Requests, IsAccounted, IsOrder, IsReached, numbers_in, started_in}
 use Rattle.senders.specs.Results.{ServedOf, taken_from}
 use Rattle.senders.specs.TakenCommits.{confirmed_to}
 use Rattle.senders.proofs.ReplayLemmas.{get_here, take_one_more}
@@ -22,6 +23,19 @@ pub record CountsUp (whole : Type 0) (next : ℕ) (numbers : List ℕ) : Type 0 
 pub long_count : (all : List ServedOf) (count : ℕ) → numbers_in all ≡ range_with_len 1 count → length all ≡ count
 long_count all count same =
     sym (length-map all (λ (one : ServedOf). one.number)) ∙ ap length same ∙ length-range_with_len 1 count
+
+-- ---- the connections that started a stream, where lists are seen as slices
+
+pub in_order : (count : ℕ) (served : List ServedOf) (found sorted seen : List (Bor ServedOf))
+    → map (λ (one : Bor ServedOf). one.now) found ≡ started_in served
+    → IsPermutation (map (λ (one : Bor ServedOf). one.now) found) (map (λ (one : Bor ServedOf). one.now) sorted)
+    → seen ≡ sorted → numbers_in (map (λ (one : Bor ServedOf). one.now) seen) ≡ range_with_len 1 count
+    → IsOrder count served (map (λ (one : Bor ServedOf). one.now) sorted)
+in_order count served found sorted seen are moved same numbered = record {
+  same = subst (λ (list : List ServedOf). IsPermutation list (map (λ (one : Bor ServedOf). one.now) sorted)) are moved;
+  numbered = subst (λ (list : List (Bor ServedOf)). numbers_in (map (λ (one : Bor ServedOf). one.now) list)
+      ≡ range_with_len 1 count) same numbered;
+}
 
 -- ---- the connections, as they are shown
 
@@ -46,7 +60,7 @@ module _ {R : Type 0} (show : R → ServedOf) (rows : List R) (place : ℕ) (row
 -- ---- a connection after others
 
 -- a place in a list is its last one, or is before that
-data IsPlaced (order earlier : List ServedOf) (last one : ServedOf) : Type 0 where
+pub data IsPlaced (order earlier : List ServedOf) (last one : ServedOf) : Type 0 where
   IsLast : earlier ≡ order → one ≡ last → IsPlaced order earlier last one
   IsWithin : (rest : List ServedOf) → order ≡ earlier ++ one ∷ rest → IsPlaced order earlier last one
 
@@ -55,7 +69,7 @@ placed_after : (first : ServedOf) (order earlier : List ServedOf) (last one : Se
 placed_after first order earlier last one (IsLast same is) = IsLast (ap (λ list. first ∷ list) same) is
 placed_after first order earlier last one (IsWithin rest same) = IsWithin rest (ap (λ list. first ∷ list) same)
 
-placed : (order earlier later : List ServedOf) (last one : ServedOf) → order ++ last ∷ [] ≡ earlier ++ one ∷ later
+pub placed : (order earlier later : List ServedOf) (last one : ServedOf) → order ++ last ∷ [] ≡ earlier ++ one ∷ later
     → IsPlaced order earlier last one
 placed [] [] later last one same = IsLast refl cc
 placed [] (other ∷ earlier) later last one same =

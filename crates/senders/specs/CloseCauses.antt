@@ -14,11 +14,11 @@ use Rattle.publisher_desk.specs.Seats.{SeatOf}
 use Rattle.publisher_desk.specs.Logged.{RiseTo}
 use Rattle.senders.specs.Gathering.{all_receipts, all_readings, numbers_of, IsRisingSeat}
 use Rattle.senders.specs.Histories.{AreInOrder, IsRight}
-use Rattle.senders.specs.Reached.{AreReached, IsOrder, LacksConnection}
+use Rattle.senders.specs.Reached.{AreReached, AreResumed, IsOrder, LacksConnection}
 use Rattle.senders.specs.Results.{ServedOf}
 use Rattle.senders.specs.TakenCommits.{IsTaken}
 use Rattle.senders.specs.declared.close_error.CloseError.{CloseError}
-use Rattle.senders.specs.declared.close_error.CloseError.TheVariants.{CountDiffers, ReceiptMissing, ReadingWrong, TakenDiffers, ConnectionMissing, StartLate, OutOfMemory}
+use Rattle.senders.specs.declared.close_error.CloseError.TheVariants.{CountDiffers, ReceiptMissing, ReadingWrong, TakenDiffers, ConnectionMissing, StartLate, StartEarly, OutOfMemory}
 
 -- ---- a receipt that the log does not have
 
@@ -90,15 +90,16 @@ pub record HasMissingConnection (book : Book) (acquired : ℕ) (seats : List Sea
     pub taken : All (IsTaken (book_log book)) served
     pub missing : LacksConnection acquired served
 
--- None is missing, and a stream started after a commit that no client of its slot confirmed or passed over.
-pub record HasLateStart (book : Book) (acquired : ℕ) (seats : List SeatOf) (served : List ServedOf) : Type 0 where
+-- None is missing, and `so` holds of them in their order.
+pub record HasStarts (book : Book) (acquired : ℕ) (seats : List SeatOf) (served : List ServedOf)
+    (so : ℕ → List ServedOf → Type 0) : Type 0 where
   pub order : List ReceiptOf
   pub explained : IsExplainedBy book seats order
   pub right : All (IsRight (book_setting book) (transactions_of order)) (all_readings seats)
   pub taken : All (IsTaken (book_log book)) served
   pub starts : List ServedOf
   pub ordered : IsOrder acquired served starts
-  pub late : ¬ AreReached (length (book_checked book).catalog.subscriptions) starts
+  pub are : so (length (book_checked book).catalog.subscriptions) starts
 
 -- ---- refusals, each of which passes what comes before it
 
@@ -110,7 +111,10 @@ IsCloseCause book acquired seats served ReceiptMissing = (length (book_log book)
 IsCloseCause book acquired seats served ReadingWrong = HasWrongReading book seats
 IsCloseCause book acquired seats served TakenDiffers = HasOtherTaken book seats served
 IsCloseCause book acquired seats served ConnectionMissing = HasMissingConnection book acquired seats served
-IsCloseCause book acquired seats served StartLate = HasLateStart book acquired seats served
+IsCloseCause book acquired seats served StartLate =
+    HasStarts book acquired seats served (λ slots starts. ¬ AreReached slots starts)
+IsCloseCause book acquired seats served StartEarly =
+    HasStarts book acquired seats served (λ slots starts. AreReached slots starts × ¬ AreResumed slots starts)
 IsCloseCause book acquired seats served OutOfMemory = Unit {0}
 
 -- A receipt is never missing, and no reading is wrong: the publisher's history ties them to its log, and a seat of
@@ -122,4 +126,5 @@ CanCome ReadingWrong = ⊥
 CanCome TakenDiffers = Unit {0}
 CanCome ConnectionMissing = Unit {0}
 CanCome StartLate = Unit {0}
+CanCome StartEarly = Unit {0}
 CanCome OutOfMemory = Unit {0}

@@ -7,11 +7,11 @@ use Rattle.publisher_desk.specs.Seats.{SeatOf}
 use Rattle.publisher_desk.specs.SlotEvents.{acquisitions}
 use Rattle.publisher_desk.specs.Viewers.{ClosingOf, IsAcceptedLog, IsSeenIn, log_seen}
 use Rattle.senders.specs.Gathering.{all_receipts}
-use Rattle.senders.specs.Reached.{AreReached, IsOrder, LacksConnection}
+use Rattle.senders.specs.Reached.{AreReached, AreResumed, IsOrder, LacksConnection}
 use Rattle.senders.specs.Results.{ServedOf}
 use Rattle.senders.specs.TakenCommits.{IsTaken}
 use Rattle.senders.specs.declared.close_error.CloseError.{CloseError}
-use Rattle.senders.specs.declared.close_error.CloseError.TheVariants.{CountDiffers, ReceiptMissing, ReadingWrong, TakenDiffers, ConnectionMissing, StartLate, OutOfMemory}
+use Rattle.senders.specs.declared.close_error.CloseError.TheVariants.{CountDiffers, ReceiptMissing, ReadingWrong, TakenDiffers, ConnectionMissing, StartLate, StartEarly, OutOfMemory}
 
 -- The seats have a receipt for each commit of the log, and each connection took what the log has from its start on.
 pub record AreTaken (checked : CheckedOf) (closing : ClosingOf) (seats : List SeatOf) (served : List ServedOf) : Type 0
@@ -31,13 +31,13 @@ pub record LacksServed (checked : CheckedOf) (closing : ClosingOf) (seats : List
   pub before : AreTaken checked closing seats served
   pub missing : LacksConnection (acquisitions closing.events) served
 
--- They are, and a stream started after a commit that no client of its slot confirmed or passed over.
-pub record StartsLate (checked : CheckedOf) (closing : ClosingOf) (seats : List SeatOf) (served : List ServedOf)
-    : Type 0 where
+-- They are, and `so` holds of those connections in their order, for the number of slots.
+pub record StartsAre (checked : CheckedOf) (closing : ClosingOf) (seats : List SeatOf) (served : List ServedOf)
+    (so : ℕ → List ServedOf → Type 0) : Type 0 where
   pub before : AreTaken checked closing seats served
   pub starts : List ServedOf
   pub ordered : IsOrder (acquisitions closing.events) served starts
-  pub late : ¬ AreReached (length checked.catalog.subscriptions) starts
+  pub are : so (length checked.catalog.subscriptions) starts
 
 -- Each reason passes what comes before it. A receipt is never missing, and no reading is wrong: the publisher's history
 -- ties them to its log, and a seat of another publisher cannot be passed in. Of all seats, `left` were never handed
@@ -49,7 +49,10 @@ IsReasonToRefuse checked all left closing seats served ReceiptMissing = ⊥
 IsReasonToRefuse checked all left closing seats served ReadingWrong = ⊥
 IsReasonToRefuse checked all left closing seats served TakenDiffers = HasOtherCommits checked closing seats served
 IsReasonToRefuse checked all left closing seats served ConnectionMissing = LacksServed checked closing seats served
-IsReasonToRefuse checked all left closing seats served StartLate = StartsLate checked closing seats served
+IsReasonToRefuse checked all left closing seats served StartLate =
+    StartsAre checked closing seats served (λ slots starts. ¬ AreReached slots starts)
+IsReasonToRefuse checked all left closing seats served StartEarly =
+    StartsAre checked closing seats served (λ slots starts. AreReached slots starts × ¬ AreResumed slots starts)
 IsReasonToRefuse checked all left closing seats served OutOfMemory = Unit {0}
 
 -- The publisher's log has this number of commits at most, each of which was accepted after those before it. It has no

@@ -14,7 +14,7 @@ use Rattle.publisher_desk.specs.Viewers.{ClosingOf, IsSeenIn}
 use Rattle.publisher_desk.specs.declared.slot_event.SlotEvent.{SlotEvent}
 use Rattle.senders.specs.Gathering.{all_readings}
 use Rattle.senders.specs.Histories.{AreInOrder, IsRight}
-use Rattle.senders.specs.Reached.{AreReached, IsOrder}
+use Rattle.senders.specs.Reached.{AreReached, AreResumed, IsOrder}
 use Rattle.senders.specs.Results.{HadStream, ServedOf}
 use Rattle.senders.specs.TakenCommits.{IsTaken}
 
@@ -30,8 +30,9 @@ HadStreamIn events one =
 -- seat knows of. Times have 64 bits. Each connection took the commits of the book's log, and has seen a beginning of
 -- the publisher's log and the first events of its slots. In these events the stream of each connection acquired its
 -- slot and released it, and no event in between is of the slot; each acquisition is that of one of the connections. In
--- the order of these, each commit before the start of a connection was taken for one of its slot before it, whose
--- client confirmed it, or is before a position that its client, or that of one of the slot before it, requested.
+-- the order of these, each commit before the start of a connection was taken for an earlier one of its slot, whose
+-- client confirmed it, or is before a position that its client, or that of an earlier one of the slot, requested; and
+-- no start is before a position that an earlier one of the slot reports as confirmed.
 pub record IsClosed (checked : CheckedOf) (limit : ℕ) (closing : ClosingOf) (seats : List SeatOf)
     (served : List ServedOf) (book : Book) : Type 0 where
   pub named : book_checked book ≡ checked
@@ -51,3 +52,4 @@ pub record IsClosed (checked : CheckedOf) (limit : ℕ) (closing : ClosingOf) (s
   pub starts : List ServedOf
   pub ordered_starts : IsOrder (acquisitions closing.events) served starts
   pub reached : AreReached (length checked.catalog.subscriptions) starts
+  pub resumed : AreResumed (length checked.catalog.subscriptions) starts

@@ -1,6 +1,6 @@
--- That no stream started after commits of the log that no client of its slot confirmed: PostgreSQL 15, "Logical
--- Replication", 31.2.1 Replication Slot Management.
-use Rattle.std.specs.Prelude.{◌≡◌, ◌≢◌, ◌<◌, ◌≤◌, ℕ, true, List, [], ◌∷◌, ◌++◌, Contains, map, Option, Some, None}
+-- That no stream started after commits of the log that no client of its slot confirmed, or before a position that one
+-- confirmed: PostgreSQL 15, "Logical Replication", 31.2.1 Replication Slot Management.
+use Rattle.std.specs.Prelude.{◌≡◌, ◌≢◌, ◌<◌, ◌≤◌, ℕ, true, List, [], ◌∷◌, ◌++◌, All, Contains, map, unwrap_or, Option, Some, None}
 use Rattle.std.specs.List.{range_with_len}
 use Rattle.std.specs.List.Sorted.{IsPermutation, IsNonDecreasingBy}
 use Rattle.senders.specs.Results.{ServedOf, taken_from}
@@ -60,3 +60,16 @@ IsReached order slot = (earlier : List ServedOf) (one : ServedOf) (later : List 
 -- so it is of each slot
 abbrev pub AreReached : ℕ → List ServedOf → Type 0
 AreReached slots order = (slot : ℕ) → slot < slots → IsReached order slot
+
+-- ---- the positions before a start
+
+-- In this order of the connections: none of the slot starts before a position that an earlier one of the slot reports
+-- as confirmed.
+abbrev pub IsResumed : List ServedOf → ℕ → Type 0
+IsResumed order slot = (earlier : List ServedOf) (one : ServedOf) (later : List ServedOf)
+    → order ≡ earlier ++ one ∷ later → one.slot ≡ Some slot
+    → All (λ (other : ServedOf). other.slot ≡ Some slot → other.confirmed ≤ unwrap_or one.start 0) earlier
+
+-- so it is of each slot
+abbrev pub AreResumed : ℕ → List ServedOf → Type 0
+AreResumed slots order = (slot : ℕ) → slot < slots → IsResumed order slot

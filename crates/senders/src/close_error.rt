@@ -20,14 +20,17 @@ pub enum CloseError {
     /// A connection that was finished stops before the log's end.
     #[error("a finished connection stops before the end of the log")]
     TakenDiffers,
-    /// A stream acquired a slot, and its connection is not among those that were passed in; or two of these report the
-    /// same acquisition.
+    /// A stream acquired a slot, and its connection is not among those that were passed in.
     #[error("the result of a connection is missing")]
     ConnectionMissing,
     /// A stream started after a commit that was taken for no earlier connection of its slot whose client confirmed it,
     /// although neither its own client nor an earlier one of the slot requested a later position.
     #[error("a stream started after a commit that no client of its slot confirmed")]
     StartLate,
+    /// A stream started before a position up to which the client of an earlier connection of its slot had confirmed the
+    /// log, so that commits that were confirmed may be sent again.
+    #[error("a stream started before a position that a client of its slot had confirmed")]
+    StartEarly,
     /// An allocation was refused.
     #[error("out of memory")]
     OutOfMemory,

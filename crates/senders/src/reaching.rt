@@ -1,9 +1,11 @@
-//! Whether no stream started after commits that no client of its slot confirmed.
+//! Whether no stream started after commits that no client of its slot confirmed, or before a position that one
+//! confirmed.
 
-ghost use Rattle.std.specs.Prelude.{◌≡◌, ◌≢◌, ◌<◌, All, IfErr, IfOk, MatchBool, OnOk, Some, false, map, true};
+ghost use Rattle.std.specs.Prelude.{◌≡◌, ◌≢◌, ◌<◌, ◌≤◌, All, IfErr, IfOk, MatchBool, OnOk, Some, false, map, true};
+ghost use Rattle.std.specs.Option.{unwrap_or};
 ghost use Rattle.std.specs.List.{range_with_len};
 ghost use Rattle.std.specs.List.Sorted.{IsNonDecreasingBy, IsPermutation};
-ghost use Rattle.senders.specs.Reached.{AreReached, IsReached, numbers_in, started_in};
+ghost use Rattle.senders.specs.Reached.{AreReached, AreResumed, IsReached, IsResumed, numbers_in, started_in};
 ghost use Rattle.senders.specs.Results.{taken_from};
 ghost use Rattle.senders.specs.Starts.{AreInTime, IsStartCause};
 
@@ -102,16 +104,54 @@ fn are_reached<P: Publishing>(starts: &[&Served<P>], slots: usize) -> bool
     true
 }
 
+/// Whether the connection started before this position.
+fn is_early<P: Publishing>(one: &Served<P>, position: u64) -> bool
+    ensures { MatchBool result (unwrap_or one.now.start 0 < position) (position ≤ unwrap_or one.now.start 0) }
+{
+    one.start().unwrap_or(0) < position
+}
+
+/// Whether no connection of the slot started before a position that the client of an earlier one of the slot confirmed.
+fn is_resumed<P: Publishing>(starts: &[&Served<P>], slot: SlotNumber) -> bool
+    ensures { MatchBool result (IsResumed (map (λ one. one.now) starts.now) slot)
+        (¬ IsResumed (map (λ one. one.now) starts.now) slot) }
+{
+    let mut greatest = 0;
+    for one in starts {
+        if is_of(one, slot) {
+            if is_early(one, greatest) {
+                return false;
+            }
+            greatest = greatest.max(one.confirmed());
+        }
+    }
+    true
+}
+
+/// Whether this is so of each of this number of slots.
+fn are_resumed<P: Publishing>(starts: &[&Served<P>], slots: usize) -> bool
+    ensures { MatchBool result (AreResumed slots (map (λ one. one.now) starts.now))
+        (¬ AreResumed slots (map (λ one. one.now) starts.now)) }
+{
+    for slot in 0..slots {
+        if !is_resumed(starts, slot) {
+            return false;
+        }
+    }
+    true
+}
+
 /// Checks that, of this number of acquisitions of slots, each is that of a connection. Then, for each of this number of
-/// slots, in the order of their numbers: each commit before the start of a connection of the slot was taken for a
-/// connection of the slot before it, whose client confirmed it, or is before a position that its client, or that of one
-/// of the slot before it, requested.
+/// slots, in the order of their numbers: each commit before the start of a connection of the slot was taken for an
+/// earlier one of the slot, whose client confirmed it, or is before a position that its client, or that of an earlier
+/// one of the slot, requested. Then, for each of these slots, in the same order: no connection of the slot started
+/// before a position that the client of an earlier one of the slot confirmed.
 ///
-/// It takes the time to sort the connections once, and to pass over them once for each slot.
+/// It takes the time to sort the connections once, and to pass over them twice for each slot.
 ///
 /// # Errors
 ///
-/// `ConnectionMissing`, `StartLate` or out of memory.
+/// The first of `ConnectionMissing`, `StartLate` and `StartEarly`, or out of memory.
 pub(crate) fn check_starts<P: Publishing>(
     alloc: Global,
     slots: usize,
@@ -128,6 +168,9 @@ pub(crate) fn check_starts<P: Publishing>(
     }
     if !are_reached(starts.as_slice(), slots) {
         return Err(CloseError::StartLate);
+    }
+    if !are_resumed(starts.as_slice(), slots) {
+        return Err(CloseError::StartEarly);
     }
     Ok(())
 }

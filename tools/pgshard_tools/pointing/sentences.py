@@ -36,6 +36,7 @@ CLOSINGS = {
     "TakenDiffers": "a finished connection stops before the end of the log",
     "ConnectionMissing": "the result of a connection is missing",
     "StartLate": "a stream started after a commit that no client of its slot confirmed",
+    "StartEarly": "a stream started before a position that a client of its slot had confirmed",
 }
 
 PARTS = {

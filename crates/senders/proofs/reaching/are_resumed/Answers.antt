@@ -1,0 +1,12 @@
+use Rattle.std.proofs.Common.{Bor, map, arith}
+use Rattle.senders.specs.Results.{ServedOf}
+use Rattle.senders.proofs.ResumeLemmas.{one_slot_more}
+use Rattle.senders.proofs.reaching.are_resumed.Goals as goal
+
+pub loop-slot-preserved : goal.loop-slot-preserved
+loop-slot-preserved g c =
+    one_slot_more c.loop-slot.slot (map (λ (one : Bor ServedOf). one.now) c.args.starts.now) c.loop-slot.invariant
+    c.if-not-is_resumed.ensures
+
+pub returns : goal.returns
+returns g c = λ slot below. c.loop-slot.invariant slot (omega (arith, below))
