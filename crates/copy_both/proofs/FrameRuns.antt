@@ -254,7 +254,7 @@ later_runs served slot start (frame ∷ frames) h is going =
 -- ---- the first frame
 
 -- a stream starts by a Query
-query_of : (served : ServedFrom) (slots : List Slot) (kind : ℕ) (body : List ℕ) (slot start : ℕ)
+pub query_of : (served : ServedFrom) (slots : List Slot) (kind : ℕ) (body : List ℕ) (slot start : ℕ)
     → begin_of served slots kind body ≡ Begins slot start → kind ≡ 81
 unfolding begin_of asked_of
 query_of served slots kind body slot start is = by_test (kind == 81)

@@ -1,4 +1,5 @@
 pub mod CommandLoops
+pub mod ConfirmedHeard
 pub mod CountLemmas
 pub mod Crossing
 pub mod Cuts

@@ -111,7 +111,13 @@ leaves_over : (over : Bool) (fault : LinkFault) (old new : Session) (before afte
     → Leaves old new before after (unless_over over h (with_fault fault h)) → Leaves old new before after h
 leaves_over true fault old new before after h leaves = leaves
 leaves_over false fault old new before after h leaves =
-    record { checked = leaves.checked; started = leaves.started; response = leaves.response; book = leaves.book }
+    record {
+      checked = leaves.checked;
+      started = leaves.started;
+      confirmed = leaves.confirmed;
+      response = leaves.response;
+      book = leaves.book;
+    }
 
 leaves_then : (fault : Option FrameFault) (old new : Session) (before after : Book) (h : HearingOf)
     → Leaves old new before after (then_fault fault h) → Leaves old new before after h
@@ -239,6 +245,7 @@ leaves_closed : (old mid new : Ear) (before after : Book) (h : HearingOf)
 leaves_closed old mid new before after h leaves closes = record {
   checked = closes.checked ∙ leaves.checked;
   started = closes.started ∙ leaves.started;
+  confirmed = closes.confirmed ∙ leaves.confirmed;
   response = closes.refusal ∙ leaves.response;
   book = leaves.book;
 }

@@ -234,6 +234,7 @@ nothing_heard session book inbox piece sent =
       record {
         checked = refl;
         started = ap (λ (h : HearingOf). h.started) none;
+        confirmed = ap (λ (h : HearingOf). h.confirmed) none;
         response = ap (λ (h : HearingOf). h.response) none;
         book = subst (λ (h : HearingOf). ChangesSlots book book h.slots) none same;
       },

@@ -42,16 +42,16 @@ fault_after (first ∷ frames) last = fault_after frames last
 
 -- ---- the answer
 
-ok_faultless : (f : Option LinkFault) (heard reported : Heard) → answer_by f heard ≡ Ok reported → (f ≡ None) × (heard ≡ reported)
+pub ok_faultless : (f : Option LinkFault) (heard reported : Heard) → answer_by f heard ≡ Ok reported → (f ≡ None) × (heard ≡ reported)
 ok_faultless None heard reported is = (refl, cc)
 ok_faultless (Some f) heard reported is = absurd cc
 
-err_faulty : (f : Option LinkFault) (heard : Heard) (g : LinkFault) → answer_by f heard ≡ Err g → f ≡ Some g
+pub err_faulty : (f : Option LinkFault) (heard : Heard) (g : LinkFault) → answer_by f heard ≡ Err g → f ≡ Some g
 err_faulty None heard g is = absurd cc
 err_faulty (Some f) heard g is = let same : f ≡ g = cc in ap Some same
 
 -- a fault stays, and so does an end
-fault_stays : (f : Option FrameFault) (last : HearingOf) (g : LinkFault) → last.fault ≡ Some g
+pub fault_stays : (f : Option FrameFault) (last : HearingOf) (g : LinkFault) → last.fault ≡ Some g
     → (then_fault f last).fault ≡ Some g
 fault_stays None last g is = is
 fault_stays (Some f) last g is =
@@ -455,7 +455,7 @@ nothing_wrong : fault_in 65536 [] ≡ None
 unfolding cut
 nothing_wrong = refl
 
-nothing_cut : frames_in [] ≡ []
+pub nothing_cut : frames_in [] ≡ []
 unfolding cut
 nothing_cut = refl
 

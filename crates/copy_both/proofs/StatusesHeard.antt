@@ -319,13 +319,13 @@ confirms_more frames more started before after slot (Confirms start is says) =
 
 module _ (checked : CheckedOf) (known : BooksOf) (bytes piece : List ℕ) (old new : Ear) (before after : Book) (sent : ℕ)
     (has : HasHeard checked known bytes old) where
-  abbrev of_piece : List Frame
+  abbrev pub of_piece : List Frame
   of_piece = held_frames (fed old.frames piece)
 
   ready : IsReady old.frames old.session.response.items
   ready = old.fits has.phase_is
 
-  all_frames : frames_in (bytes ++ piece) ≡ frames_in bytes ++ of_piece
+  pub all_frames : frames_in (bytes ++ piece) ≡ frames_in bytes ++ of_piece
   all_frames =
       ap frames_of (cut_more 65536 bytes piece has.good ∙ more_after 65536 piece (cut 65536 bytes) has.good
       ∙ ap (λ (held : List ℕ). after_frames (frames_in bytes) (cut 65536 (held ++ piece))) (sym has.held)

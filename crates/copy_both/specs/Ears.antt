@@ -32,6 +32,10 @@ ear_phase ear = ear.phase
 abbrev pub ear_started : Ear → Option (ℕ × ℕ)
 ear_started ear = ear.session.started
 
+-- the greatest position that its client confirmed; 0 if it confirmed none
+abbrev pub ear_confirmed : Ear → ℕ
+ear_confirmed ear = ear.session.confirmed
+
 -- the response to a start that was refused
 abbrev pub ear_refusal : Ear → List ℕ
 ear_refusal ear = ear.session.response.items
@@ -50,6 +54,7 @@ pub record IsSameEar (old new : Ear) : Type 0 where
   pub checked : ear_checked new ≡ ear_checked old
   pub phase_is : ear_phase new ≡ ear_phase old
   pub started : ear_started new ≡ ear_started old
+  pub confirmed : ear_confirmed new ≡ ear_confirmed old
   pub refusal : ear_refusal new ≡ ear_refusal old
   pub held : ear_held new ≡ ear_held old
 
@@ -103,6 +108,7 @@ pub record EarCloses (old new : Ear) : Type 0 where
   pub checked : ear_checked new ≡ ear_checked old
   pub phase_is : ear_phase new ≡ phase_closed (ear_phase old)
   pub started : ear_started new ≡ ear_started old
+  pub confirmed : ear_confirmed new ≡ ear_confirmed old
   pub refusal : ear_refusal new ≡ ear_refusal old
 
 -- the slots without the stream, if there is one
@@ -120,6 +126,7 @@ pub record Loses (old new : Ear) (before after : Book) : Type 0 where
   pub checked : ear_checked new ≡ ear_checked old
   pub phase_is : ear_phase new ≡ phase.Lost
   pub started : ear_started new ≡ ear_started old
+  pub confirmed : ear_confirmed new ≡ ear_confirmed old
   pub refusal : ear_refusal new ≡ ear_refusal old
   pub book : ChangesSlots before after (slots_after_loss (ear_phase old) (ear_started old) (book_slots before))
 

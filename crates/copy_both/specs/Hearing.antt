@@ -36,11 +36,13 @@ pub record HeardOf : Type 0 where
   pub ended : Option ℕ
 
 -- the result of the frames so far: the slot that streams and where the stream starts, what has to be answered, the sent
--- position, the slots of the book, the response to a start that is refused, and the fault
+-- position, the greatest position that was confirmed, the slots of the book, the response to a start that is refused,
+-- and the fault
 pub record HearingOf : Type 0 where
   pub started : Option (ℕ × ℕ)
   pub heard : HeardOf
   pub sent : ℕ
+  pub confirmed : ℕ
   pub slots : List Slot
   pub response : List ℕ
   pub fault : Option LinkFault
@@ -107,6 +109,7 @@ abbrev pub confirmed_by : Bool → ℕ → Status → HearingOf → HearingOf
 confirmed_by true slot status h = with_fault fault.StatusAhead h
 confirmed_by false slot status h = record h {
   heard = record h.heard { replies = one_more status.wants_reply h.heard.replies };
+  confirmed = max h.confirmed status.flushed;
   slots = confirmed_up_to h.slots slot status.flushed;
 }
 

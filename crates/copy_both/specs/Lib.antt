@@ -1,5 +1,6 @@
 pub mod CommandText
 pub mod CommandTokens
+pub mod ConfirmedFrames
 pub mod Ears
 pub mod Events
 pub mod Framing

@@ -55,6 +55,7 @@ part_heard count session book inbox piece sent =
 pub record Leaves (old new : Session) (before after : Book) (h : HearingOf) : Type 0 where
   pub checked : session_checked new ≡ session_checked old
   pub started : new.started ≡ h.started
+  pub confirmed : new.confirmed ≡ h.confirmed
   pub response : new.response.items ≡ h.response
   pub book : ChangesSlots before after h.slots
 

@@ -42,6 +42,7 @@ hearing_view session hearing book = record {
   started = session.started;
   heard = heard_view hearing;
   sent = hearing.sent;
+  confirmed = session.confirmed;
   slots = book_slots book;
   response = session.response.items;
   fault = None;
@@ -57,6 +58,7 @@ IsSameBook before after = ChangesSlots before after (book_slots after)
 pub record IsSameSession (old new : Session) : Type 0 where
   pub checked : session_checked new ≡ session_checked old
   pub started : new.started ≡ old.started
+  pub confirmed : new.confirmed ≡ old.confirmed
 
 pub record KeepsRest (old new : Session) (before after : Book) : Type 0 where
   pub checked : session_checked new ≡ session_checked old

@@ -41,7 +41,7 @@ impl Ear {
     ghost use Rattle.filter_tree.specs.Memory.{Answers, NeedsMemoryOnlyIf};
     ghost use Rattle.shard_checker.specs.CheckedView.{checked_view};
     ghost use Rattle.copy_both.specs.Ears as spec;
-    ghost use Rattle.copy_both.specs.Ears.{EarCloses, HearLeaves, IsAnsweredBy, Loses, ear_checked, ear_heard, ear_held, ear_phase, ear_refusal, ear_started};
+    ghost use Rattle.copy_both.specs.Ears.{EarCloses, HearLeaves, IsAnsweredBy, Loses, ear_checked, ear_confirmed, ear_heard, ear_held, ear_phase, ear_refusal, ear_started};
     ghost use Rattle.copy_both.specs.Sessions.{heard_view, reported_result};
     ghost use Rattle.copy_both.specs.Voices.{reported_fault};
     ghost use Rattle.copy_both.specs.declared.link_fault.LinkFault.TheVariants.{OutOfMemory};
@@ -52,6 +52,7 @@ impl Ear {
         ensures checked { ear_checked result ≡ checked_view (arc_value checked) }
         ensures phase { ear_phase result ≡ phase.Open }
         ensures started { ear_started result ≡ None }
+        ensures confirmed { ear_confirmed result ≡ 0 }
         ensures refusal { ear_refusal result ≡ [] }
         ensures held { ear_held result ≡ [] }
     {
@@ -59,6 +60,7 @@ impl Ear {
             alloc,
             checked,
             started: None,
+            confirmed: Lsn::new(0),
             response: BytesMut::new(alloc),
         };
         Ear {
@@ -136,6 +138,15 @@ impl Ear {
         ensures { result ≡ ear_started self.now }
     {
         self.session.started
+    }
+
+    /// The greatest position that the client's statuses confirmed, in bytes of the log; 0 if none did.
+    ///
+    /// PostgreSQL 15, 55.4. Streaming Replication Protocol, Standby status update.
+    pub fn confirmed(&self) -> u64
+        ensures { result ≡ ear_confirmed self.now }
+    {
+        self.session.confirmed.to_u64()
     }
 
     /// The ErrorResponse to a start that was refused; otherwise empty.

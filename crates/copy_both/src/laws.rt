@@ -1,5 +1,6 @@
 //! Laws about streams.
 
+ghost use Rattle.copy_both.specs.ConfirmedFrames.{ConfirmationsAreHeard};
 ghost use Rattle.copy_both.specs.Ears.{HearingChangesSlots, LosingChangesSlots, StartsTakeSlots};
 ghost use Rattle.copy_both.specs.HeardFrames.{LateStartsAreRequested, NothingIsHeard, PiecesAreHeard, StatusesConfirm};
 ghost use Rattle.copy_both.specs.LinkLaws as links;
@@ -83,7 +84,8 @@ pub fn ears_change_slots()
 /// with which that frame was heard started it: at the requested position, or at the slot's confirmed position if that
 /// is later. So a stream that starts after the confirmed position starts at the requested one (`requested`). A start
 /// remains, and is reported once. A slot is confirmed only on the connection of its stream, and only up to the position
-/// of a status (`confirmed`). A fault is that of a length, of the first frame's start, or of a later frame; and an end
+/// of a status (`confirmed`). The ear knows the greatest position that was confirmed, by all statuses up to a frame that
+/// ended the connection or has a fault (`heard`). A fault is that of a length, of the first frame's start, or of a later frame; and an end
 /// is that of a frame of this kind. A start that is refused has the ErrorResponse of its refusal. The law holds for
 /// books of the checked catalog that are among those that a publisher has had (`BooksOf`): each is that of a beginning
 /// of the log, and its slots were in use as they were at some time.
@@ -94,6 +96,7 @@ pub fn frames_are_heard()
     ensures pieces { PiecesAreHeard }
     ensures requested { LateStartsAreRequested }
     ensures confirmed { StatusesConfirm }
+    ensures heard { ConfirmationsAreHeard }
 {}
 
 /// Accepts what may be sent to another thread.

@@ -26,12 +26,13 @@ use std::sync::Arc;
 use tables_log::{Book, Lsn, SlotNumber, StartError};
 
 /// What was agreed with a client: the slot that streams and where in the log the stream starts, or the
-/// response to a start that was refused.
+/// response to a start that was refused; and the greatest position that the client confirmed, 0 if it confirmed none.
 #[derive(Drop)]
 pub(crate) struct Session {
     pub(crate) alloc: Global,
     pub(crate) checked: Arc<Checked, Global>,
     pub(crate) started: Option<StreamStart>,
+    pub(crate) confirmed: Lsn,
     pub(crate) response: BytesMut,
 }
 
@@ -85,6 +86,7 @@ impl Session {
     fn begin(&mut self, frame: &Frame, book: &mut Book) -> Result<StreamStart, LinkFault>
         ensures kept { KeepsRest self.old self.new book.old book.new }
         ensures started { self.new.started ≡ self.old.started }
+        ensures confirmed { self.new.confirmed ≡ self.old.confirmed }
         ensures begun { Begins (begin_in self.old book.old frame.now) (book_slots book.old) (book_slots book.new)
             self.old.response.items self.new.response.items result }
     {
@@ -140,19 +142,19 @@ impl Session {
 
     /// Hears a frame while the stream of this slot runs.
     fn hear_next(
-        &self,
+        &mut self,
         slot: SlotNumber,
         frame: &Frame,
         book: &mut Book,
         hearing: &mut Hearing,
     ) -> Result<(), LinkFault>
         requires { hearing.old.replies < 2 ^ 63 }
-        ensures kept { IsSameBook book.old book.new }
+        ensures kept { KeepsRest self.old self.new book.old book.new }
         ensures counted { hearing.new.replies ≤ hearing.old.replies + 1 }
         ensures heard { Hears
-            (spec.event_heard (served_by self.now book.old) slot (event_of frame.now.kind frame.now.body)
-            (hearing_view self.now hearing.old book.old))
-            (hearing_view self.now hearing.old book.old) (hearing_view self.now hearing.new book.new) result }
+            (spec.event_heard (served_by self.old book.old) slot (event_of frame.now.kind frame.now.body)
+            (hearing_view self.old hearing.old book.old))
+            (hearing_view self.old hearing.old book.old) (hearing_view self.new hearing.new book.new) result }
     {
         match event_of(frame.kind, frame.body.as_slice())? {
             Event::Status(status) => self.hear_status(slot, &status, book, hearing),
@@ -165,24 +167,25 @@ impl Session {
 
     /// Confirms what a status reports as flushed.
     fn hear_status(
-        &self,
+        &mut self,
         slot: SlotNumber,
         status: &Status,
         book: &mut Book,
         hearing: &mut Hearing,
     ) -> Result<(), LinkFault>
         requires { hearing.old.replies < 2 ^ 63 }
-        ensures kept { IsSameBook book.old book.new }
+        ensures kept { KeepsRest self.old self.new book.old book.new }
         ensures counted { hearing.new.replies ≤ hearing.old.replies + 1 }
         ensures heard { Hears
-            (spec.status_heard (served_by self.now book.old) slot status.now
-            (hearing_view self.now hearing.old book.old))
-            (hearing_view self.now hearing.old book.old) (hearing_view self.now hearing.new book.new) result }
+            (spec.status_heard (served_by self.old book.old) slot status.now
+            (hearing_view self.old hearing.old book.old))
+            (hearing_view self.old hearing.old book.old) (hearing_view self.new hearing.new book.new) result }
     {
         let sent = hearing.sent.min(end_of(book));
         if book.confirm(slot, status.flushed, sent.to_u64()).is_err() {
             return Err(LinkFault::StatusAhead);
         }
+        self.confirmed = self.confirmed.max(Lsn::new(status.flushed));
         if status.wants_reply {
             hearing.replies += 1;
         }
