@@ -15,7 +15,10 @@ session_field_send = struct_send (shape S.the_type) (
   search sendable,
   (
     Arc-send C.the_row checked_send checked_sync,
-    (search (sendable, crosses) depth 40, (search (BM.the_send, sendable, crosses) depth 60, tt)),
+    (
+      search (sendable, crosses) depth 40,
+      (search sendable depth 40, (search (BM.the_send, sendable, crosses) depth 60, tt)),
+    ),
   ),
 )
 
@@ -28,7 +31,7 @@ listener_field_send =
       ear_field_send,
       (
         search (sendable, crosses) depth 40,
-        (search sendable, (search sendable, (search sendable, (search sendable depth 40, tt)))),
+        (search sendable, (search sendable, (search sendable, tt))),
       ),
     )
 

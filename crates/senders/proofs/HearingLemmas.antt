@@ -1,25 +1,24 @@
 -- What a listener has heard, piece by piece.
-use Rattle.std.proofs.Common.{◌≡◌, ◌<◌, ◌≤◌, ℕ, min, List, [], ◌++◌, length, refl, sym, ◌∙◌, ap, subst, append_assoc, append-nil, arith}
+use Rattle.std.proofs.Common.{◌≡◌, ◌≤◌, ℕ, min, List, [], ◌++◌, length, refl, sym, ◌∙◌, ap, subst, append_assoc, append-nil, arith}
 use Rattle.std.specs.Prelude.{Bool, true, Option, Some, None, Result, Ok, Err, IfErr, slice_get}
 use Rattle.std.proofs.Math.Nat.{le-max_left}
 use Rattle.std.proofs.KnownBytes.{Consumes-nil, Consumes-trans}
 use Rattle.shard_checker.specs.CheckedView.{CheckedOf, setting_in}
 use Rattle.table_changes.specs.Tables.{no_rows}
-use Rattle.tables_log.specs.BookView.{book_log, book_slots}
-use Rattle.tables_log.specs.Slots.{confirmed_at}
+use Rattle.tables_log.specs.BookView.{book_log}
 use Rattle.tables_log.specs.Lsn.{end_lsn_of}
 use Rattle.tables_log.specs.StandsFor.{AreAccepted}
 use Rattle.tables_log.specs.declared.book.Book.{Book}
 use Rattle.tables_log.proofs.StandLemmas.{each_is_logged}
-use Rattle.copy_both.specs.Ears.{ear_refusal, ear_started}
-use Rattle.copy_both.specs.HeardFrames as heard_frames
-use Rattle.copy_both.specs.HeardFrames.{AsksIfStarted, BooksOf, GoesOnOrEnds, HasLinkFault, HasHeard, HasStatus, ConfirmsAs, Explains, IsAnswered, IsBookFor, frames_in, reach_of, sent_then, IsStartedBy}
+use Rattle.copy_frames.specs.Frames.{cut, frames_of, rest_of}
+use Rattle.copy_both.specs.Ears.{ear_confirmed, ear_refusal, ear_started}
+use Rattle.copy_both.specs.HeardFrames.{AsksIfStarted, BooksOf, GoesOnOrEnds, HasLinkFault, HasHeard, Explains, IsAnswered, IsBookFor, frames_in, reach_of, sent_then, IsStartedBy}
 use Rattle.copy_both.specs.declared.ear.Ear.{Ear}
 use Rattle.copy_both.specs.declared.heard.Heard.{Heard}
 use Rattle.copy_both.specs.declared.link_fault.LinkFault.{LinkFault}
 use Rattle.copy_both.specs.declared.link_fault.LinkFault.TheVariants as fault
-use Rattle.copy_both.proofs.PiecesHeard.{asks_stay, late_starts_are_requested, pieces_are_heard, requests_stay}
-use Rattle.copy_both.proofs.StatusesHeard.{statuses_confirm, statuses_stay}
+use Rattle.copy_both.proofs.ConfirmedHeard.{confirmations_are_heard}
+use Rattle.copy_both.proofs.PiecesHeard.{asks_stay, frames_more, late_starts_are_requested, pieces_are_heard, requests_stay}
 use Rattle.copy_both.specs.Hearing.{first_sent}
 use Rattle.publisher_desk.specs.Receipts.{transactions_of}
 use Rattle.publisher_desk.specs.SlotEvents.{use_after}
@@ -27,8 +26,8 @@ use Rattle.publisher_desk.specs.Viewers.{IsUsed, SeesMore, ViewerOf}
 use Rattle.publisher_desk.specs.declared.connection_state.ConnectionState.{ConnectionState}
 use Rattle.publisher_desk.specs.declared.slot_event.Acquisition.{Acquisition}
 use Rattle.senders.specs.Hearing.{HearsPiece, IsExplained, IsSentFrom, StaysStarted, sent_after, sent_by}
-use Rattle.senders.specs.Listening as listening
-use Rattle.senders.specs.Listening.{AcquiresFor, ConfirmsNow, EndsFor, EndsOf, HasListened, HeardPiece, HoldsStream, HearsLast, HearsMore, HearsNext, SaysConfirmed, SaysOfPiece, SaysRequested, next_by, next_by_end, piece_of}
+use Rattle.senders.specs.Confirming.{ConfirmsBy, ReportsBy, stop_by}
+use Rattle.senders.specs.Listening.{AcquiresFor, EndsFor, EndsOf, HasListened, HeardPiece, HoldsStream, HearsLast, HearsMore, HearsNext, SaysOfPiece, SaysRequested, next_by, next_by_end, piece_of}
 use Rattle.senders.specs.Results.{books_seen}
 use Rattle.senders.specs.declared.failed.Failed.{Failed}
 use Rattle.senders.specs.declared.listener.Listened.{Listened}
@@ -39,6 +38,7 @@ use Rattle.senders.specs.declared.listener_end.ListenerEnd.TheVariants as listen
 use Rattle.senders.specs.declared.listener.Listener.{Listener}
 use Rattle.senders.specs.declared.next.Next.{Next}
 use Rattle.senders.specs.declared.next.Next.TheVariants as next
+use Rattle.senders.proofs.ConfirmingLemmas.{confirms_all, confirms_lower, confirms_nothing, reports_all, reports_fault, reports_frame}
 use Rattle.senders.proofs.HoldingLemmas.{holding_after, use_among}
 
 -- ---- a piece, under the lock
@@ -140,30 +140,27 @@ module _ (checked : CheckedOf) (was now : ViewerOf) (more : AreMore (books_seen 
       → SaysRequested (bytes ++ piece_of before) after
   says_requested bytes has = says_of_piece bytes has (ear_started before.ear) refl
 
-  -- a position that was noted with this piece is that of a status in it
-  by_status : (bytes : List ℕ) (slot : ℕ) → after.confirmed ≡ confirmed_at (book_slots new) slot
-      → confirmed_at (book_slots old) slot < after.confirmed
-      → ConfirmsAs (frames_in (bytes ++ piece_of before)) (ear_started after.ear) (book_slots old) (book_slots new) slot
-      → HasStatus (frames_in (bytes ++ piece_of before)) after.confirmed
-  by_status bytes slot at further (heard_frames.Stays same) = absurd (omega (arith, at, further, same))
-  by_status bytes slot at further (heard_frames.Confirms start started has) =
-      subst (HasStatus (frames_in (bytes ++ piece_of before))) (sym at) has
-
-  says_now : (bytes : List ℕ) → HasListened checked was bytes before
-      → ConfirmsNow (ear_started after.ear) old new before.confirmed after.confirmed
-      → SaysConfirmed (bytes ++ piece_of before) after
-  says_now bytes has (listening.Stays same) some =
-      subst (HasStatus (frames_in (bytes ++ piece_of before))) (sym same)
-      (statuses_stay checked (books_seen was) bytes (piece_of before) before.ear before.confirmed has.heard
-      (has.confirmed (subst (λ (n : ℕ). 0 < n) same some)))
-  says_now bytes has (listening.Moves slot start started at further) some =
-      by_status bytes slot at further
-      (statuses_confirm checked known bytes (piece_of before) before.ear after.ear old new sent heard
-      (has_now bytes has.heard) did.left slot)
+  -- the log has the start where a status is ahead
+  sent_ahead : (bytes : List ℕ) → HasListened checked was bytes before → heard ≡ Err fault.StatusAhead
+      → (s : ℕ × ℕ) → ear_started after.ear ≡ Some s → first_sent s.1 ≤ reach_of before.ear after.ear old sent
+  sent_ahead bytes has ahead s some =
+      let on = pieces_are_heard checked known bytes (piece_of before) before.ear after.ear old new sent heard
+      (has_now bytes has.heard) is did.answer did.left in
+      let from : IsSentFrom (Some s) (sent_then (ear_started before.ear) sent (ear_started after.ear)) =
+      subst (λ (o : Option (ℕ × ℕ)). IsSentFrom o (sent_then (ear_started before.ear) sent (ear_started after.ear))) some
+      (sent_from (ear_started before.ear) (ear_started after.ear) sent
+      (from_start (ear_started before.ear) connections) on.stays) in
+      let reaches : IsSentFrom (Some s) (end_lsn_of (length (book_log old))) =
+      subst (λ (o : Option (ℕ × ℕ)). IsSentFrom o (end_lsn_of (length (book_log old)))) some (did.reaches ahead) in
+      omega (arith, from, reaches)
 
   pub confirms_of : (bytes : List ℕ) → HasListened checked was bytes before
-      → SaysConfirmed (bytes ++ piece_of before) after
-  confirms_of bytes has = says_now bytes has did.confirms
+      → ConfirmsBy (ear_started after.ear) (frames_in (bytes ++ piece_of before)) heard (ear_confirmed after.ear)
+  confirms_of bytes has =
+      confirms_lower (ear_started after.ear) (frames_in (bytes ++ piece_of before))
+      (reach_of before.ear after.ear old sent) heard (ear_confirmed after.ear) (sent_ahead bytes has)
+      (confirmations_are_heard checked known bytes (piece_of before) before.ear after.ear old new sent heard
+      (has_now bytes has.heard) did.answer did.left has.confirmed)
 
 -- ---- a use of the slots by a listener
 
@@ -191,7 +188,7 @@ module _ (checked : CheckedOf) (was now : ViewerOf) (sees : SeesMore was now) (b
   heard_used = hears_piece checked was now (books_more was now sees) before after used.lent.old used.lent.new
       used.lent.connections listened.heard book_was used.lent.does.0
 
-  pub says_used : SaysOfPiece checked was now (piece_of before) before after
+  pub says_used : SaysOfPiece checked was now (piece_of before) before after listened.heard
   says_used = record {
     each = λ bytes has. says_requested checked was now (books_more was now sees) before after used.lent.old
         used.lent.new used.lent.connections listened.heard book_was used.lent.does.0 bytes has;
@@ -229,15 +226,20 @@ module _ (checked : CheckedOf) (was now : ViewerOf) (same : now ≡ was) (before
           };
         }))
 
-    pub says_nothing : SaysOfPiece checked was now (piece_of before) before after
-    says_nothing = subst (λ (l : Listener). SaysOfPiece checked was now (piece_of before) before l) (sym unused)
-        (subst (λ (v : ViewerOf). SaysOfPiece checked was v (piece_of before) before before) (sym same) (record {
+    pub says_nothing : SaysOfPiece checked was now (piece_of before) before after (Err fault.OutOfMemory)
+    says_nothing = subst (λ (l : Listener). SaysOfPiece checked was now (piece_of before) before l
+        (Err fault.OutOfMemory)) (sym unused)
+        (subst (λ (v : ViewerOf). SaysOfPiece checked was v (piece_of before) before before (Err fault.OutOfMemory))
+        (sym same) (record {
           each = λ bytes has slot start started says.
               requests_stay checked (books_seen was) bytes (piece_of before) before.ear slot start has.heard
               (has.requested slot start started says);
-          confirms = λ bytes has some.
-              statuses_stay checked (books_seen was) bytes (piece_of before) before.ear before.confirmed has.heard
-              (has.confirmed some);
+          confirms = λ bytes has.
+              confirms_nothing (ear_started before.ear) checked (books_seen was) (frames_in bytes)
+              (frames_in (bytes ++ piece_of before))
+              (frames_of (cut 65536 (rest_of (cut 65536 bytes) ++ piece_of before))) (ear_confirmed before.ear)
+              has.heard.started (frames_more checked (books_seen was) bytes (piece_of before) before.ear has.heard)
+              has.confirmed;
           holding = λ bytes has. has.holding;
           sees = sees_same was;
         }))
@@ -255,13 +257,13 @@ has_asked checked known bytes ear has = asks_on checked known bytes (ear_started
 
 -- with the same ear, and said of it the same
 same_listened : (checked : CheckedOf) (viewer : ViewerOf) (bytes : List ℕ) (old new : Listener) → new.ear ≡ old.ear
-    → new.is_requested ≡ old.is_requested → new.number ≡ old.number → new.confirmed ≡ old.confirmed
+    → new.is_requested ≡ old.is_requested → new.number ≡ old.number
     → HasListened checked viewer bytes old → HasListened checked viewer bytes new
-same_listened checked viewer bytes old new same said number confirmed has = record {
+same_listened checked viewer bytes old new same said number has = record {
   heard = subst (HasHeard checked (books_seen viewer) bytes) (sym same) has.heard;
   requested = λ slot start started says.
       has.requested slot start (sym (ap ear_started same) ∙ started) (sym said ∙ says);
-  confirmed = subst (λ (n : ℕ). 0 < n → HasStatus (frames_in bytes) n) (sym confirmed) has.confirmed;
+  confirmed = ap ear_confirmed same ∙ has.confirmed;
   holding = subst (λ (ear : Ear). HoldsStream (ear_started ear) new.is_requested new.number viewer.held) (sym same)
       (subst (λ (b : Bool). HoldsStream (ear_started old.ear) b new.number viewer.held) (sym said)
       (subst (λ (n : ℕ). HoldsStream (ear_started old.ear) old.is_requested n viewer.held) (sym number) has.holding));
@@ -274,33 +276,44 @@ module _ (checked : CheckedOf) (was now : ViewerOf) (left now_left : Option (Lis
     (old middle new : Listener)
     (pulls : PullsPiece left now_left (piece_of middle) old middle)
     (room : length new.piece.items ≡ length middle.piece.items)
-    (says : SaysOfPiece checked was now (piece_of middle) middle new) where
+    (result : Result Heard LinkFault) (says : SaysOfPiece checked was now (piece_of middle) middle new result) where
   has_pulled : (bytes : List ℕ) → HasListened checked was bytes old → HasListened checked was bytes middle
-  has_pulled bytes has = same_listened checked was bytes old middle pulls.ear pulls.same pulls.number pulls.confirmed has
+  has_pulled bytes has = same_listened checked was bytes old middle pulls.ear pulls.same pulls.number has
 
-  by_end : (was_over : Bool) (heard : Heard)
+  -- what is said of confirmations, of the answer
+  says_of : (heard : Result Heard LinkFault) → result ≡ heard → (bytes : List ℕ) → HasListened checked was bytes middle
+      → ConfirmsBy (ear_started new.ear) (frames_in (bytes ++ piece_of middle)) heard (ear_confirmed new.ear)
+  says_of heard is bytes has =
+      subst (λ (r : Result Heard LinkFault). ConfirmsBy (ear_started new.ear) (frames_in (bytes ++ piece_of middle)) r
+      (ear_confirmed new.ear)) is (says.confirms bytes has)
+
+  by_end : (was_over : Bool) (heard : Heard) → result ≡ Ok heard
       → HearsPiece checked was now (piece_of middle) middle.ear new.ear (Ok heard)
       → (kind : Option ℕ) → heard.ended ≡ kind
       → HearsNext checked was now left now_left failed ended old new (next_by_end was_over kind)
-  by_end was_over heard hears None none = record {
+  by_end was_over heard is hears None none = record {
     more = piece_of middle;
     read = pulls.read;
     sees = says.sees;
     heard = λ bytes has.
         let listened = has_pulled bytes has in
         let one = hears.each bytes listened.heard in
+        let goes : HasHeard checked (books_seen now) (bytes ++ piece_of middle) new.ear =
+        subst (GoesOnOrEnds checked (books_seen now) (bytes ++ piece_of middle) new.ear) none one.explained in
         record {
           has = record {
-            heard = subst (GoesOnOrEnds checked (books_seen now) (bytes ++ piece_of middle) new.ear) none one.explained;
+            heard = goes;
             requested = says.each bytes listened;
-            confirmed = says.confirms bytes listened;
+            confirmed = confirms_all (ear_started new.ear) checked (books_seen now)
+                (frames_in (bytes ++ piece_of middle)) heard (ear_confirmed new.ear) goes.started none
+                (says_of (Ok heard) is bytes listened);
             holding = says.holding bytes listened;
           };
           stays = stays_from old.ear middle.ear new.ear pulls.ear one.stays;
         };
     room = room ∙ pulls.room;
   }
-  by_end was_over heard hears (Some kind) some = record {
+  by_end was_over heard is hears (Some kind) some = record {
     more = piece_of middle;
     read = pulls.read;
     sees = says.sees;
@@ -312,16 +325,17 @@ module _ (checked : CheckedOf) (was now : ViewerOf) (left now_left : Option (Lis
           ends = subst (GoesOnOrEnds checked (books_seen now) (bytes ++ piece_of middle) new.ear) some one.explained;
           stays = stays_from old.ear middle.ear new.ear pulls.ear one.stays;
           requested = says.each bytes listened;
-          confirmed = says.confirms bytes listened;
+          reports = reports_frame (ear_started new.ear) (frames_in (bytes ++ piece_of middle)) heard kind
+              (ear_confirmed new.ear) (says_of (Ok heard) is bytes listened);
           holding = says.holding bytes listened;
         };
   }
 
-  pub hears_next : (was_over : Bool) (heard : Result Heard LinkFault)
+  pub hears_next : (was_over : Bool) (heard : Result Heard LinkFault) → result ≡ heard
       → HearsPiece checked was now (piece_of middle) middle.ear new.ear heard
       → HearsNext checked was now left now_left failed ended old new (next_by was_over heard)
-  hears_next was_over (Ok heard) hears = by_end was_over heard hears heard.ended refl
-  hears_next was_over (Err fault) hears = record {
+  hears_next was_over (Ok heard) is hears = by_end was_over heard is hears heard.ended refl
+  hears_next was_over (Err f) is hears = record {
     more = piece_of middle;
     read = pulls.read;
     sees = says.sees;
@@ -333,7 +347,8 @@ module _ (checked : CheckedOf) (was now : ViewerOf) (left now_left : Option (Lis
           ends = one.explained;
           stays = stays_from old.ear middle.ear new.ear pulls.ear one.stays;
           requested = says.each bytes listened;
-          confirmed = says.confirms bytes listened;
+          reports = reports_fault (ear_started new.ear) (frames_in (bytes ++ piece_of middle)) f
+              (ear_confirmed new.ear) (says_of (Err f) is bytes listened);
           holding = says.holding bytes listened;
         };
   }
@@ -351,10 +366,14 @@ says_still : (checked : CheckedOf) (viewer : ViewerOf) (bytes : List ℕ) (new :
 says_still checked viewer bytes new has =
     subst (λ (all : List ℕ). SaysRequested all new) (sym (append-nil bytes)) has.requested
 
-confirmed_still : (checked : CheckedOf) (viewer : ViewerOf) (bytes : List ℕ) (new : Listener)
-    → HasListened checked viewer bytes new → SaysConfirmed (bytes ++ []) new
-confirmed_still checked viewer bytes new has =
-    subst (λ (all : List ℕ). SaysConfirmed all new) (sym (append-nil bytes)) has.confirmed
+reports_still : (checked : CheckedOf) (viewer : ViewerOf) (bytes : List ℕ) (new : Listener) (why : ListenerEnd)
+    → HasListened checked viewer bytes new
+    → ReportsBy (ear_started new.ear) (frames_in (bytes ++ [])) why (ear_confirmed new.ear)
+reports_still checked viewer bytes new why has =
+    subst (λ (all : List ℕ). ReportsBy (ear_started new.ear) (frames_in all) why (ear_confirmed new.ear))
+    (sym (append-nil bytes))
+    (reports_all (ear_started new.ear) checked (books_seen viewer) (frames_in bytes) (stop_by why)
+    (why ≡ listener_end.Fault fault.OutOfMemory) (ear_confirmed new.ear) has.heard.started has.confirmed)
 
 stays_same : (old new : Ear) → new ≡ old → StaysStarted old new
 stays_same old new same started is = ap ear_started same ∙ is
@@ -370,13 +389,13 @@ module _ (checked : CheckedOf) (viewer : ViewerOf) (left now_left : Option (List
     read = pulls.read;
     sees = sees_same viewer;
     ends = λ bytes has.
-        let listened = same_listened checked viewer bytes old new pulls.ear pulls.same pulls.number pulls.confirmed has in
+        let listened = same_listened checked viewer bytes old new pulls.ear pulls.same pulls.number has in
         record {
           asks = asks_still_for checked viewer bytes new listened;
           ends = ends (bytes ++ []);
           stays = stays_same old.ear new.ear pulls.ear;
           requested = says_still checked viewer bytes new listened;
-          confirmed = confirmed_still checked viewer bytes new listened;
+          reports = reports_still checked viewer bytes new why listened;
           holding = listened.holding;
         };
   }
@@ -440,7 +459,7 @@ module _ (checked : CheckedOf) (was between now : ViewerOf) (left middle_left la
           ends = two.ends;
           stays = λ started is. two.stays started (one.stays started is);
           requested = two.requested;
-          confirmed = two.confirmed;
+          reports = two.reports;
           holding = two.holding;
         });
   }

@@ -1,5 +1,6 @@
 pub mod BeginningLemmas
 pub mod ClosingLemmas
+pub mod ConfirmingLemmas
 pub mod ConnectionLemmas
 pub mod Crossing
 pub mod FlushingLemmas

@@ -21,7 +21,13 @@ unless_ended : (old new : Session) (before after : Book) (h : HearingOf) (over :
     → Leaves old new before after (unless_over over h (with_fault fault h)) → Leaves old new before after h
 unless_ended old new before after h true fault left = left
 unless_ended old new before after h false fault left =
-    record { checked = left.checked; started = left.started; response = left.response; book = left.book }
+    record {
+      checked = left.checked;
+      started = left.started;
+      confirmed = left.confirmed;
+      response = left.response;
+      book = left.book;
+    }
 
 without_fault : (old new : Session) (before after : Book) (h : HearingOf) (fault : Option FrameFault)
     → Leaves old new before after (then_fault fault h) → Leaves old new before after h

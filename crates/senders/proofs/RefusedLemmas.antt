@@ -1,17 +1,18 @@
 -- What came of a connection on which no stream was started.
-use Rattle.std.proofs.Common.{◌<◌, arith, ◌≡◌, ℕ, List, [], map, refl, sym, ◌∙◌, ap, subst}
+use Rattle.std.proofs.Common.{◌≡◌, ℕ, List, [], map, refl, sym, ◌∙◌, ap, subst}
 use Rattle.std.specs.Prelude.{Bool, false, Option, None}
 use Rattle.std.specs.Arc.{arc_value}
 use Rattle.std.specs.Io.KnownBytes.{Appends}
 use Rattle.std.proofs.KnownBytes.{Appends-nil, Consumes-nil}
 use Rattle.shard_checker.specs.CheckedView.{CheckedOf}
-use Rattle.copy_both.specs.Ears.{ear_refusal}
-use Rattle.copy_both.specs.HeardFrames.{HasStatus, BooksOf, frames_in}
+use Rattle.copy_both.specs.Ears.{ear_confirmed, ear_refusal}
+use Rattle.copy_both.specs.HeardFrames.{BooksOf, frames_in}
 use Rattle.copy_both.specs.declared.link_fault.LinkFault.{LinkFault}
 use Rattle.copy_both.specs.declared.link_fault.LinkFault.TheVariants as fault
 use Rattle.senders.specs.declared.end.End.{End}
 use Rattle.senders.specs.declared.end.End.TheVariants as end
 use Rattle.senders.specs.declared.outcome.Outcome.{Outcome}
+use Rattle.senders.specs.Confirming.{ReportsAt, ReportsBy}
 use Rattle.senders.specs.Listening.{EndsAt, EndsFor, HasListened}
 use Rattle.senders.specs.Refusing.{AnswersAs, cause_by}
 use Rattle.senders.specs.Results.{books_seen, commits_of, served_of}
@@ -61,7 +62,7 @@ module _ (checked : CheckedOf) (known : BooksOf) (bytes : List ℕ) (source_fail
 
 module _ (checked : CheckedOf) (bytes : List ℕ) (source_failed source_ended : Bool) (before after : Option (List ℕ))
     (failed : Bool) (outcome : Outcome) (is_requested : Bool) (confirmed number : ℕ) (viewer : ViewerOf)
-    (confirms : 0 < confirmed → HasStatus (frames_in bytes) confirmed)
+    (unconfirmed : confirmed ≡ 0)
     (no_slot : outcome.slot ≡ None) (no_start : outcome.start ≡ None) (none : outcome.taken.items ≡ []) where
   abbrev known : BooksOf
   known = books_seen viewer
@@ -81,7 +82,8 @@ module _ (checked : CheckedOf) (bytes : List ℕ) (source_failed source_ended : 
     cause = subst (λ (o : Option ℕ). IsEndCause checked known bytes (started_of o outcome.start) source_failed
         source_ended failed outcome.end) (sym no_slot) cause;
     requested = λ slot start some begins says. cc;
-    confirmed = confirms;
+    reports = subst (λ (o : Option ℕ). ReportsAt (started_of o outcome.start) (frames_in bytes) outcome.end confirmed)
+        (sym no_slot) unconfirmed;
     left = λ slot some sound client. cc;
   }
 
@@ -89,7 +91,7 @@ module _ (checked : CheckedOf) (bytes : List ℕ) (source_failed source_ended : 
 pub served_refused : (checked : CheckedOf) (was now last : ViewerOf) (left now_left : Option (List ℕ))
     (source_failed source_ended : Bool)
     (before after : Option (List ℕ)) (failed : Bool) (old new : Listener) (outcome : Outcome) (is_requested : Bool)
-    (confirmed number : ℕ) (why : ListenerEnd) → confirmed ≡ new.confirmed → SeesMore now last
+    (confirmed number : ℕ) (why : ListenerEnd) → confirmed ≡ ear_confirmed new.ear → SeesMore now last
     → HasListened checked was [] old → EndsAt checked was now left now_left source_failed source_ended old new None why
     → AnswersAs why before after failed (ear_refusal new.ear)
     → outcome.slot ≡ None → outcome.start ≡ None → outcome.taken.items ≡ [] → outcome.end ≡ cause_by why
@@ -109,7 +111,9 @@ served_refused checked was now last left now_left source_failed source_ended bef
       bytes = bytes;
       read = at.hears.read;
       served_for = unstarted checked bytes source_failed source_ended before after failed outcome is_requested
-          confirmed number last (subst (λ (n : ℕ). 0 < n → HasStatus (frames_in bytes) n) (sym noted) all.confirmed)
+          confirmed number last
+          (noted ∙ subst (λ (o : Option (ℕ × ℕ)). ReportsBy o (frames_in bytes) why (ear_confirmed new.ear))
+          at.started_is all.reports)
           no_slot no_start none
           (subst (Answered checked known bytes before after failed) (sym same)
           (answered checked known bytes source_failed source_ended before after failed (ear_refusal new.ear) why ends
@@ -127,7 +131,7 @@ served_nothing checked left source_failed source_ended before failed outcome no_
   bytes = [];
   read = Consumes-nil left;
   served_for = unstarted checked [] source_failed source_ended before before failed outcome false 0 0 new_viewer
-      (λ some. absurd (omega (arith, some))) no_slot no_start none
+      refl no_slot no_start none
       (subst (Answered checked (books_seen new_viewer) [] before before failed) (sym same)
       (record { written = []; put = Appends-nil before; answer = refl }))
       (subst (IsEndCause checked (books_seen new_viewer) [] None source_failed source_ended failed) (sym same) (record {

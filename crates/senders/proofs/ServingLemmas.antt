@@ -1,14 +1,14 @@
 -- What came of a connection: what was read of it, and what was written.
-use Rattle.std.proofs.Common.{◌≡◌, ◌<◌, ℕ, List, [], ◌++◌, refl, sym, ◌∙◌, ap, subst, inl, inr, arith}
+use Rattle.std.proofs.Common.{◌≡◌, ℕ, List, [], ◌++◌, refl, sym, ◌∙◌, ap, subst, inl, inr, arith}
 use Rattle.std.proofs.lemmas.Bool.Decides.{nat_tests}
 use Rattle.std.specs.Prelude.{◌==◌, Bool, true, false, Option, Some, None}
 use Rattle.std.proofs.KnownBytes.{Consumes-trans}
 use Rattle.std.specs.Io.KnownBytes.{Consumes}
 use Rattle.shard_checker.specs.CheckedView.{CheckedOf}
-use Rattle.copy_both.specs.Ears.{ear_refusal, ear_started}
+use Rattle.copy_both.specs.Ears.{ear_confirmed, ear_refusal, ear_started}
 use Rattle.copy_frames.specs.Contents.{copy_done}
 use Rattle.copy_frames.specs.declared.frame.Frame.{Frame}
-use Rattle.copy_both.specs.HeardFrames.{AsksFor, AsksIfStarted, BooksOf, HasEnd, HasStatus, Requests, frames_in}
+use Rattle.copy_both.specs.HeardFrames.{AsksFor, AsksIfStarted, BooksOf, HasEnd, Requests, frames_in}
 use Rattle.copy_both.specs.Hearing.{first_sent}
 use Rattle.copy_both.specs.VoiceLaws.{Follow}
 use Rattle.copy_both.specs.declared.link_fault.LinkFault.TheVariants as fault
@@ -18,6 +18,7 @@ use Rattle.publisher_desk.specs.Viewers.{SeesMore, ViewerOf, new_viewer}
 use Rattle.senders.specs.declared.end.End.{End}
 use Rattle.senders.specs.declared.end.End.TheVariants as end
 use Rattle.senders.specs.declared.outcome.Outcome.{Outcome}
+use Rattle.senders.specs.Confirming.{HasReported, ReportsAt, ReportsBy, ReportsIf, stop_by}
 use Rattle.senders.specs.Hearing.{HoldsFault}
 use Rattle.senders.specs.Listening.{EndsAt, EndsFor, EndsOf, HasListened, HearsAll, HoldsStream, IsHolding, StartsOn}
 use Rattle.senders.specs.Refusing.{cause_by}
@@ -31,6 +32,7 @@ use Rattle.senders.specs.Speaking as speaking
 use Rattle.senders.specs.declared.listener_end.ListenerEnd.{ListenerEnd}
 use Rattle.senders.specs.declared.listener_end.ListenerEnd.TheVariants as listener_end
 use Rattle.senders.specs.declared.listener.Listener.{Listener}
+use Rattle.senders.proofs.ConfirmingLemmas.{reports_all, reports_end, reports_some, stop_in}
 use Rattle.senders.proofs.HearingLemmas.{has_asked}
 use Rattle.senders.proofs.SeenLogs.{asks_still, books_more, ends_still}
 
@@ -66,7 +68,8 @@ record Knows (checked : CheckedOf) (known : BooksOf) (bytes : List ℕ) (slot st
     (why : Option ListenerEnd) (is_requested : Bool) (confirmed : ℕ) : Type 0 where
   asks : AsksFor checked known (frames_in bytes) slot start
   requested : is_requested ≡ true → Requests (frames_in bytes) slot start
-  confirms : 0 < confirmed → HasStatus (frames_in bytes) confirmed
+  reports : HasReported (frames_in bytes) (stop_in why start) (why ≡ Some (listener_end.Fault fault.OutOfMemory))
+      confirmed
   response : List ℕ
   ends : (ending : ListenerEnd) → why ≡ Some ending
       → EndsFor checked known bytes (Some (slot, start)) response source_failed source_ended ending
@@ -171,7 +174,12 @@ module _ (checked : CheckedOf) (known : BooksOf) (bytes : List ℕ) (slot start 
             let same_start : start ≡ at = cc in
             subst (λ (s : ℕ). Requests (frames_in bytes) s at) same_slot
             (subst (λ (n : ℕ). Requests (frames_in bytes) slot n) same_start (knows.requested says));
-        confirmed = knows.confirms;
+        reports = subst (λ (o : Option ℕ). ReportsAt (started_of o served.start) (frames_in bytes) served.end confirmed)
+            (sym streams.slot_is)
+            (subst (λ (o : Option ℕ). ReportsAt (started_of (Some slot) o) (frames_in bytes) served.end confirmed)
+            (sym streams.start_is)
+            (reports_end (frames_in bytes) start why sink_failed served.end confirmed streams.ends streams.refused
+            knows.reports));
         left = λ other some sound client.
             left_by streams.written served.end client (streams.answered sound client) streams.ends;
       }
@@ -195,12 +203,15 @@ module _ (checked : CheckedOf) (now last : ViewerOf) (sees : SeesMore now last) 
   knows_end : (old new : Listener) (why : ListenerEnd)
       → EndsOf checked now bytes old new source_failed source_ended why
       → ear_started new.ear ≡ Some (slot, start) → (is_requested : Bool) (confirmed : ℕ)
-      → is_requested ≡ new.is_requested → confirmed ≡ new.confirmed
+      → is_requested ≡ new.is_requested → confirmed ≡ ear_confirmed new.ear
       → Knows checked (books_seen last) bytes slot start source_failed source_ended (Some why) is_requested confirmed
   knows_end old new why ends is is_requested confirmed said noted = record {
     asks = asks_last (ear_started new.ear) ends.asks is;
     requested = λ says. ends.requested slot start is (sym said ∙ says);
-    confirms = subst (λ (n : ℕ). 0 < n → HasStatus (frames_in bytes) n) (sym noted) ends.confirmed;
+    reports = reports_some (frames_in bytes) start confirmed why
+        (subst (HasReported (frames_in bytes) (stop_by why start) (why ≡ listener_end.Fault fault.OutOfMemory))
+        (sym noted)
+        (subst (λ (o : Option (ℕ × ℕ)). ReportsBy o (frames_in bytes) why (ear_confirmed new.ear)) is ends.reports));
     response = ear_refusal new.ear;
     ends = λ ending some.
         let same : why ≡ ending = cc in
@@ -214,12 +225,18 @@ module _ (checked : CheckedOf) (now last : ViewerOf) (sees : SeesMore now last) 
 
   knows_on : (listener : Listener) → HasListened checked now bytes listener
       → ear_started listener.ear ≡ Some (slot, start) → (is_requested : Bool) (confirmed : ℕ)
-      → is_requested ≡ listener.is_requested → confirmed ≡ listener.confirmed
+      → is_requested ≡ listener.is_requested → confirmed ≡ ear_confirmed listener.ear
       → Knows checked (books_seen last) bytes slot start source_failed source_ended None is_requested confirmed
   knows_on listener has is is_requested confirmed said noted = record {
     asks = asks_last (ear_started listener.ear) (has_asked checked (books_seen now) bytes listener.ear has.heard) is;
     requested = λ says. has.requested slot start is (sym said ∙ says);
-    confirms = subst (λ (n : ℕ). 0 < n → HasStatus (frames_in bytes) n) (sym noted) has.confirmed;
+    reports = subst (HasReported (frames_in bytes) None (None ≡ Some (listener_end.Fault fault.OutOfMemory)))
+        (sym noted)
+        (subst (λ (o : Option (ℕ × ℕ)). ReportsIf o (frames_in bytes) (stop_in None)
+        (None ≡ Some (listener_end.Fault fault.OutOfMemory)) (ear_confirmed listener.ear)) is
+        (reports_all (ear_started listener.ear) checked (books_seen now) (frames_in bytes) (stop_in None)
+        (None ≡ Some (listener_end.Fault fault.OutOfMemory)) (ear_confirmed listener.ear) has.heard.started
+        has.confirmed));
     response = [];
     ends = λ ending some. cc;
   }
@@ -246,7 +263,7 @@ module _ (checked : CheckedOf) (was now last : ViewerOf) (sees : SeesMore now la
     (source_failed source_ended : Bool)
     (before after : Option (List ℕ)) (sink_failed : Bool) (old new : Listener)
     (fresh : HasListened checked was [] old) (outcome : Outcome) (is_requested : Bool) (confirmed number : ℕ)
-    (said : is_requested ≡ new.is_requested) (noted : confirmed ≡ new.confirmed) where
+    (said : is_requested ≡ new.is_requested) (noted : confirmed ≡ ear_confirmed new.ear) where
   abbrev Result : ViewerOf → Type 0
   Result sender = EndsStream checked now last left now_left source_failed source_ended before after sink_failed new outcome
       is_requested confirmed number sender

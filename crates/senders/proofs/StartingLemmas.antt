@@ -6,10 +6,9 @@ use Rattle.tables_log.specs.Slots.{confirmed_at}
 use Rattle.tables_log.specs.declared.book.Book.{Book}
 use Rattle.tables_log.specs.declared.slots.Slot.{Slot}
 use Rattle.copy_both.specs.Ears.{ChangesUse, ear_started}
-use Rattle.copy_both.specs.declared.ear.Ear.{Ear}
 use Rattle.publisher_desk.specs.SlotEvents.{MayAcquire}
 use Rattle.publisher_desk.specs.declared.slot_event.Acquisition.{Acquisition}
-use Rattle.senders.specs.Listening.{AcquiresFor, Compares, ConfirmsNow, Further, Moves, NotesPosition, NotesStartIf, Same, Stays}
+use Rattle.senders.specs.Listening.{AcquiresFor, Compares, NotesStartIf}
 use Rattle.senders.specs.declared.listener.Listener.{Listener}
 
 not_started : (started : Option (ℕ × ℕ)) → is_some started ≡ false → started ≡ None
@@ -104,29 +103,6 @@ module _ (before heard after : Listener) (old new : Book) (was_started : Bool) (
       → after.ear ≡ heard.ear
   ear_kept None notes = ap (λ (listener : Listener). listener.ear) notes.0
   ear_kept (Some one) notes = notes.ear_is
-
-  confirmed_kept : (acquired : Option Acquisition) → NotesStartIf was_started confirmed number heard after acquired
-      → after.confirmed ≡ heard.confirmed
-  confirmed_kept None notes = ap (λ (listener : Listener). listener.confirmed) notes.0
-  confirmed_kept (Some one) notes = notes.confirmed_is
-
-  -- what was noted of the client's confirmations
-  says_confirmed : (started : Option (ℕ × ℕ)) → started ≡ ear_started after.ear → after.confirmed ≡ heard.confirmed
-      → NotesPosition started confirmed new before.confirmed heard.confirmed
-      → ConfirmsNow (ear_started after.ear) old new before.confirmed after.confirmed
-  says_confirmed started started_is kept (Same same) = Stays (kept ∙ same)
-  says_confirmed started started_is kept (Further slot start some at within further) =
-      Moves slot start (sym started_is ∙ some) (kept ∙ at)
-      (subst (λ (n : ℕ). n < after.confirmed) (positions slot within)
-      (subst (λ (n : ℕ). slice_index confirmed slot < n) (sym kept) further))
-
-  pub confirms_by : (acquired : Option Acquisition)
-      → NotesStartIf was_started confirmed number heard after acquired → (at : Ear) → heard.ear ≡ at
-      → NotesPosition (ear_started at) confirmed new before.confirmed heard.confirmed
-      → ConfirmsNow (ear_started after.ear) old new before.confirmed after.confirmed
-  confirms_by acquired notes at same noted =
-      says_confirmed (ear_started at) (ap ear_started (sym same) ∙ sym (ap ear_started (ear_kept acquired notes)))
-      (confirmed_kept acquired notes) noted
 
   pub room_kept : (acquired : Option Acquisition) → NotesStartIf was_started confirmed number heard after acquired
       → length after.piece.items ≡ length heard.piece.items

@@ -83,7 +83,8 @@ module _ (checked : CheckedOf) (slot start : ℕ) where
   module _ (before opened sent last : Option (List ℕ)) (put : Appends before opened copy_both_response)
       (taken : List CommitOf) (voice : Voice) (why : Option ListenerEnd) (was_failed failed : Bool)
       (served : Outcome) (slot_is : served.slot ≡ Some slot) (start_is : served.start ≡ Some start)
-      (taken_is : commits_of served ≡ taken) (ends : IsEndOf why failed served.end) where
+      (taken_is : commits_of served ≡ taken) (ends : IsEndOf why failed served.end)
+      (refuses : why ≡ Some (listener_end.Fault fault.OutOfMemory) → served.end ≡ end.Link fault.OutOfMemory) where
     after_all : (was now : SenderEnd) → GoesOn opened sent taken voice (started_telling checked slot start copy_both_response)
         → Closes was now why sent last failed → (now ≡ sender_end.OutOfMemory → served.end ≡ end.Client → ⊥)
         → Streams checked slot start before last failed why served
@@ -119,6 +120,7 @@ module _ (checked : CheckedOf) (slot start : ℕ) where
                 ∙ answered_by was now why closes.last served.end refused closes.closing client done);
           };
           ends = ends;
+          refused = refuses;
         }
 
     after_part : (was now : SenderEnd) → Breaks opened sent taken voice (started_telling checked slot start copy_both_response)
@@ -151,6 +153,7 @@ module _ (checked : CheckedOf) (slot start : ℕ) where
           whole = λ finished. absurd (unfinished finished);
           answered = λ sound client done. absurd (not_left sound client);
           ends = ends;
+          refused = refuses;
         }
 
 -- ---- the causes that streams have
@@ -184,6 +187,18 @@ refused_end sender_end.OutOfMemory is_first (Some why) is client = cc
 refused_end sender_end.ConnectionEnded is_first why is client = cc
 refused_end sender_end.Finished is_first why is client = cc
 refused_end sender_end.WriteFault is_first why is client = cc
+
+-- out of memory of the listener goes before all else
+memory_goes : (s : SenderEnd) (is_first : Bool)
+    → chosen s is_first (Some (listener_end.Fault fault.OutOfMemory)) ≡ end.Link fault.OutOfMemory
+memory_goes sender_end.ConnectionEnded is_first = refl
+memory_goes sender_end.Finished is_first = refl
+memory_goes sender_end.WriteFault is_first = refl
+memory_goes sender_end.OutOfMemory is_first = refl
+
+memory_first : (s : SenderEnd) (is_first : Bool) (why : Option ListenerEnd) (is : End) → is ≡ chosen s is_first why
+    → why ≡ Some (listener_end.Fault fault.OutOfMemory) → is ≡ end.Link fault.OutOfMemory
+memory_first s is_first why is same some = same ∙ ap (chosen s is_first) some ∙ memory_goes s is_first
 
 not_fault : (was now : SenderEnd) (why : Option ListenerEnd) (last : List ℕ) → (was ≡ sender_end.WriteFault → ⊥)
     → IsClosing was now why last → now ≡ sender_end.WriteFault → ⊥
@@ -223,12 +238,14 @@ module _ (checked : CheckedOf) (slot start : ℕ) (before opened sent last : Opt
       start_is taken_is
       (ends_by now is_first why failed served.end
       (λ same. absurd (not_fault sender_end.ConnectionEnded now why says.last (λ no. cc) says.closing same)) end_is)
+      (memory_first now is_first why served.end end_is)
       sender_end.ConnectionEnded now stops says (λ same client. refused_end now is_first why same (sym end_is ∙ client))
   by_stop sender_end.Finished now is_first taken put stops fails slot_is start_is taken_is end_is says =
       after_all checked slot start before opened sent last put taken voice why was_failed failed served slot_is
       start_is taken_is
       (ends_by now is_first why failed served.end
       (λ same. absurd (not_fault sender_end.Finished now why says.last (λ no. cc) says.closing same)) end_is)
+      (memory_first now is_first why served.end end_is)
       sender_end.Finished now stops says (λ same client. refused_end now is_first why same (sym end_is ∙ client))
   by_stop sender_end.WriteFault now is_first taken put stops fails slot_is start_is taken_is end_is says =
       let failing : failed ≡ true = says.same ∙ fails refl in
@@ -236,7 +253,8 @@ module _ (checked : CheckedOf) (slot start : ℕ) (before opened sent last : Opt
       end_is ∙ ap (λ (s : SenderEnd). chosen s is_first why) says.now_is in
       after_part checked slot start before opened sent last put taken voice why was_failed failed served slot_is
       start_is taken_is
-      (ends_by sender_end.WriteFault is_first why failed served.end (λ same. failing) is) sender_end.WriteFault now stops says
+      (ends_by sender_end.WriteFault is_first why failed served.end (λ same. failing) is)
+      (memory_first now is_first why served.end end_is) sender_end.WriteFault now stops says
       (λ sound. cc)
       (λ finished. unfinished sender_end.WriteFault is_first why (λ no. cc) (sym is ∙ finished)) (λ sound client. cc)
   by_stop sender_end.OutOfMemory now is_first taken put stops fails slot_is start_is taken_is end_is says =
@@ -244,7 +262,8 @@ module _ (checked : CheckedOf) (slot start : ℕ) (before opened sent last : Opt
       end_is ∙ ap (λ (s : SenderEnd). chosen s is_first why) says.now_is in
       after_part checked slot start before opened sent last put taken voice why was_failed failed served slot_is
       start_is taken_is
-      (ends_by sender_end.OutOfMemory is_first why failed served.end (λ no. cc) is) sender_end.OutOfMemory now stops.breaks says
+      (ends_by sender_end.OutOfMemory is_first why failed served.end (λ no. cc) is)
+      (memory_first now is_first why served.end end_is) sender_end.OutOfMemory now stops.breaks says
       (λ sound. stops.none)
       (λ finished. unfinished sender_end.OutOfMemory is_first why (λ no. cc) (sym is ∙ finished))
       (λ sound client. refused_end sender_end.OutOfMemory is_first why refl (sym is ∙ client))
@@ -268,12 +287,15 @@ streams_to_its_end checked slot start before opened sent last voice old_voice wh
 
 module _ (checked : CheckedOf) (slot start : ℕ) (before last : Option (List ℕ)) (failed : Bool) (why : Option ListenerEnd)
     (served : Outcome) where
+  abbrev Refuses : Type 0
+  Refuses = why ≡ Some (listener_end.Fault fault.OutOfMemory) → served.end ≡ end.Link fault.OutOfMemory
+
   without : (written rest : List ℕ) → Appends before last written → written ++ rest ≡ copy_both_response
       → served.slot ≡ Some slot → served.start ≡ Some start → served.taken.items ≡ []
       → (failed ≡ false → served.end ≢ end.Link fault.OutOfMemory → rest ≡ []) → (served.end ≡ end.Finished → ⊥)
-      → (failed ≡ false → served.end ≡ end.Client → ⊥) → IsEndOf why failed served.end
+      → (failed ≡ false → served.end ≡ end.Client → ⊥) → IsEndOf why failed served.end → Refuses
       → Streams checked slot start before last failed why served
-  without written rest put bytes slot_is start_is none all not not_left ends =
+  without written rest put bytes slot_is start_is none all not not_left ends refuses =
       let no_commits : commits_of served ≡ [] = ap (map (λ commit. arc_value commit)) none in
       record {
         slot_is = slot_is;
@@ -292,28 +314,33 @@ module _ (checked : CheckedOf) (slot start : ℕ) (before last : Option (List �
         whole = λ finished. absurd (not finished);
         answered = λ sound client done. absurd (not_left sound client);
         ends = ends;
+        refused = refuses;
       }
 
   not_opened : (is : End) → WritesPart before last failed → IsWithout slot start is served → (is ≡ end.Finished → ⊥)
-      → IsEndOf why failed served.end
+      → IsEndOf why failed served.end → Refuses
       → Streams checked slot start before last failed why served
-  not_opened is fails without_it not ends =
+  not_opened is fails without_it not ends refuses =
       without fails.written fails.rest fails.put fails.bytes without_it.slot_is without_it.start_is without_it.none
-      (λ sound memory. cc) (λ finished. not (sym without_it.end_is ∙ finished)) (λ sound client. cc) ends
+      (λ sound memory. cc) (λ finished. not (sym without_it.end_is ∙ finished)) (λ sound client. cc) ends refuses
 
   starved : Appends before last [] → IsWithout slot start (end.Link fault.OutOfMemory) served
       → Streams checked slot start before last failed why served
   starved put is =
       without [] copy_both_response put refl is.slot_is is.start_is is.none
       (λ sound memory. absurd (memory is.end_is)) (λ finished. cc) (λ sound client. cc) (Memory is.end_is)
+      (λ some. is.end_is)
 
-  pub streams_not : (s : SenderEnd) → FailsToOpen before last failed s → IsWithout slot start (end_by s) served
+  -- it was not heard any further
+  pub streams_not : (s : SenderEnd) → why ≡ None → FailsToOpen before last failed s
+      → IsWithout slot start (end_by s) served
       → Streams checked slot start before last failed why served
-  streams_not sender_end.ConnectionEnded fails is = absurd fails
-  streams_not sender_end.Finished fails is = absurd fails
-  streams_not sender_end.WriteFault fails is =
+  streams_not sender_end.ConnectionEnded none fails is = absurd fails
+  streams_not sender_end.Finished none fails is = absurd fails
+  streams_not sender_end.WriteFault none fails is =
       not_opened end.WriteFault fails is (λ finished. cc) (Writing is.end_is fails.fails)
-  streams_not sender_end.OutOfMemory fails is = starved fails is
+      (λ some. absurd (let no : None ≡ Some (listener_end.Fault fault.OutOfMemory) = sym none ∙ some in cc))
+  streams_not sender_end.OutOfMemory none fails is = starved fails is
 
   -- the client had ended it
   pub streams_ended : (s : SenderEnd) (ending : ListenerEnd) → why ≡ Some ending → FailsToOpen before last failed s
@@ -323,6 +350,8 @@ module _ (checked : CheckedOf) (slot start : ℕ) (before last : Option (List �
   streams_ended sender_end.Finished ending some fails is = absurd fails
   streams_ended sender_end.WriteFault ending some fails is =
       not_opened (cause_by ending) fails is (heard_unfinished ending) (Heard ending some is.end_is)
+      (λ out. let both : Some ending ≡ Some (listener_end.Fault fault.OutOfMemory) = sym some ∙ out in
+      let same : ending ≡ listener_end.Fault fault.OutOfMemory = cc in is.end_is ∙ ap cause_by same)
   streams_ended sender_end.OutOfMemory ending some fails is = starved fails is
 
   -- no thread could be started
@@ -331,4 +360,4 @@ module _ (checked : CheckedOf) (slot start : ℕ) (before last : Option (List �
       → Streams checked slot start before last failed why served
   streams_no_further put is =
       without copy_both_response [] put (append-nil copy_both_response) is.slot_is is.start_is is.none
-      (λ sound memory. refl) (λ finished. cc) (λ sound client. cc) (Memory is.end_is)
+      (λ sound memory. refl) (λ finished. cc) (λ sound client. cc) (Memory is.end_is) (λ some. is.end_is)

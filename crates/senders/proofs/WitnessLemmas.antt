@@ -5,6 +5,7 @@ use Rattle.std.specs.Arc.{arc_value}
 use Rattle.std.proofs.lemmas.List.{length-map}
 use Rattle.shard_checker.specs.CheckedView.{CheckedOf}
 use Rattle.tables_log.specs.Lsn.{commits_before, end_lsn_of}
+use Rattle.copy_both.specs.Ears.{ear_confirmed}
 use Rattle.copy_both.specs.VoiceLaws.{AreAt}
 use Rattle.copy_both.proofs.StartBounds.{start_within}
 use Rattle.publisher_desk.specs.Receipts.{ReceiptOf, transaction_of}
@@ -159,7 +160,7 @@ starts_on old new other more begins = (
 module _ (checked : CheckedOf) (was now last : ViewerOf) (sees : SeesMore now last) (left now_left : Option (List ℕ))
     (source_failed source_ended : Bool) (before after : Option (List ℕ)) (sink_failed : Bool) (old new : Listener)
     (fresh : HasListened checked was [] old) (sender : ViewerOf) (outcome : Outcome) (is_requested : Bool)
-    (confirmed number : ℕ) (said : is_requested ≡ new.is_requested) (noted : confirmed ≡ new.confirmed) where
+    (confirmed number : ℕ) (said : is_requested ≡ new.is_requested) (noted : confirmed ≡ ear_confirmed new.ear) where
   abbrev Ending : Type 0
   Ending =
       EndsUnstarted checked now last left now_left source_failed source_ended before after sink_failed new outcome

@@ -2,6 +2,7 @@ pub mod Causes
 pub mod CloseCauses
 pub mod CloseReasons
 pub mod Closing
+pub mod Confirming
 pub mod Connections
 pub mod Flushing
 pub mod Following

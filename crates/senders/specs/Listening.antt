@@ -7,8 +7,9 @@ use Rattle.tables_log.specs.BookView.{book_log, book_slots}
 use Rattle.tables_log.specs.Lsn.{end_lsn_of}
 use Rattle.tables_log.specs.Slots.{confirmed_at}
 use Rattle.tables_log.specs.declared.book.Book.{Book}
-use Rattle.copy_both.specs.Ears.{HearLeaves, ear_phase, ear_refusal, ear_started, hear_answer}
-use Rattle.copy_both.specs.HeardFrames.{frames_in, AsksIfStarted, BooksOf, HasEnd, HasHeard, HasStatus, Requests}
+use Rattle.copy_both.specs.ConfirmedFrames.{confirmed_in}
+use Rattle.copy_both.specs.Ears.{HearLeaves, ear_confirmed, ear_phase, ear_refusal, ear_started, hear_answer}
+use Rattle.copy_both.specs.HeardFrames.{frames_in, AsksIfStarted, BooksOf, HasEnd, HasHeard, Requests}
 use Rattle.copy_both.specs.Voices.{reported_fault}
 use Rattle.copy_both.specs.declared.heard.Heard.{Heard}
 use Rattle.copy_both.specs.declared.link_fault.LinkFault.{LinkFault}
@@ -18,6 +19,7 @@ use Rattle.publisher_desk.specs.Viewers.{SeesMore, ViewerOf}
 use Rattle.publisher_desk.specs.declared.connection_state.ConnectionState.{ConnectionState}
 use Rattle.publisher_desk.specs.declared.slot_event.Acquisition.{Acquisition}
 use Rattle.publisher_desk.specs.declared.slot_sight.Hold.{Hold}
+use Rattle.senders.specs.Confirming.{ConfirmsBy, ReportsBy}
 use Rattle.senders.specs.Results.{acquisition, books_seen}
 use Rattle.senders.specs.Hearing.{Faults, IsSentFrom, StaysStarted, sent_by}
 use Rattle.senders.specs.declared.beginning.Beginning.{Beginning}
@@ -36,10 +38,6 @@ abbrev pub SaysRequested : List ℕ → Listener → Type 0
 SaysRequested bytes listener = (slot start : ℕ) → ear_started listener.ear ≡ Some (slot, start)
     → listener.is_requested ≡ true → Requests (frames_in bytes) slot start
 
--- if it says that its client confirmed the log up to a position, a status does
-abbrev pub SaysConfirmed : List ℕ → Listener → Type 0
-SaysConfirmed bytes listener = 0 < listener.confirmed → HasStatus (frames_in bytes) listener.confirmed
-
 -- The connection has the slot of the stream that its listener started, or has none.
 abbrev pub HoldsStream : Option (ℕ × ℕ) → Bool → ℕ → Option Hold → Type 0
 HoldsStream None is_requested number held = (held ≡ None) × (number ≡ 0)
@@ -54,7 +52,7 @@ IsHolding viewer listener =
 pub record HasListened (checked : CheckedOf) (viewer : ViewerOf) (bytes : List ℕ) (listener : Listener) : Type 0 where
   pub heard : HasHeard checked (books_seen viewer) bytes listener.ear
   pub requested : SaysRequested bytes listener
-  pub confirmed : SaysConfirmed bytes listener
+  pub confirmed : ear_confirmed listener.ear ≡ confirmed_in (frames_in bytes)
   pub holding : IsHolding viewer listener
 
 -- Of a stream that starts now it says that its start was requested only if that is after what was confirmed for the
@@ -63,13 +61,6 @@ pub record Compares (before after : Listener) (old : Book) : Type 0 where
   pub late : ear_started before.ear ≡ None → (slot start : ℕ) → ear_started after.ear ≡ Some (slot, start)
       → after.is_requested ≡ true → confirmed_at (book_slots old) slot < start
   pub stays : (started : ℕ × ℕ) → ear_started before.ear ≡ Some started → after.is_requested ≡ before.is_requested
-
--- The client is said to have confirmed what it was said to before; or the log up to where the slot of the stream is
--- confirmed, which is further than before.
-pub data ConfirmsNow (started : Option (ℕ × ℕ)) (old new : Book) (before after : ℕ) : Type 0 where
-  Stays : after ≡ before → ConfirmsNow started old new before after
-  Moves : (slot start : ℕ) → started ≡ Some (slot, start) → after ≡ confirmed_at (book_slots new) slot
-      → confirmed_at (book_slots old) slot < after → ConfirmsNow started old new before after
 
 -- ---- under the lock
 
@@ -96,7 +87,6 @@ pub record NotesStart (was_started : Bool) (confirmed : List ℕ) (number : ℕ)
   pub room : length after.piece.items ≡ length before.piece.items
   pub requested_is : after.is_requested ≡ one.is_requested
   pub number_is : after.number ≡ number
-  pub confirmed_is : after.confirmed ≡ before.confirmed
   pub within : one.is_requested ≡ true → one.slot < length confirmed
   pub late : one.is_requested ≡ true → slice_index confirmed one.slot < one.start
 
@@ -105,22 +95,6 @@ NotesStartIf was_started confirmed number before after None =
     (after ≡ before) × (was_started ≡ false → ear_started before.ear ≡ None)
 NotesStartIf was_started confirmed number before after (Some one) =
     NotesStart was_started confirmed number before after one
-
--- the position that it notes, and where the slot was confirmed before
-pub data NotesPosition (started : Option (ℕ × ℕ)) (positions : List ℕ) (book : Book) (before after : ℕ) : Type 0 where
-  Same : after ≡ before → NotesPosition started positions book before after
-  Further : (slot start : ℕ) → started ≡ Some (slot, start) → after ≡ confirmed_at (book_slots book) slot
-      → slot < length positions → slice_index positions slot < after
-      → NotesPosition started positions book before after
-
--- Of what was heard the listener notes up to where the slot of the stream is now confirmed, if that is further than
--- before, and nothing else.
-pub record NotesConfirmed (positions : List ℕ) (book : Book) (before after : Listener) : Type 0 where
-  pub ear_is : after.ear ≡ before.ear
-  pub room : length after.piece.items ≡ length before.piece.items
-  pub requested_is : after.is_requested ≡ before.is_requested
-  pub number_is : after.number ≡ before.number
-  pub confirmed_is : NotesPosition (ear_started before.ear) positions book before.confirmed after.confirmed
 
 -- The ear heard the piece, with the sent position of the slot's connection. A status is ahead only of a log that has
 -- the start of the stream.
@@ -133,14 +107,15 @@ pub record HeardPiece (before after : Listener) (old new : Book) (connections : 
   pub reaches : heard ≡ Err StatusAhead → IsSentFrom (ear_started after.ear) (end_lsn_of (length (book_log old)))
   pub room : length after.piece.items ≡ length before.piece.items
   pub compares : Compares before after old
-  pub confirms : ConfirmsNow (ear_started after.ear) old new before.confirmed after.confirmed
 
 -- ---- outside of it
 
 -- What it says with the piece is so, and what its connection then has, whatever it had heard before.
-pub record SaysOfPiece (checked : CheckedOf) (was now : ViewerOf) (piece : List ℕ) (old new : Listener) : Type 0 where
+pub record SaysOfPiece (checked : CheckedOf) (was now : ViewerOf) (piece : List ℕ) (old new : Listener)
+    (heard : Result Heard LinkFault) : Type 0 where
   pub each : (bytes : List ℕ) → HasListened checked was bytes old → SaysRequested (bytes ++ piece) new
-  pub confirms : (bytes : List ℕ) → HasListened checked was bytes old → SaysConfirmed (bytes ++ piece) new
+  pub confirms : (bytes : List ℕ) → HasListened checked was bytes old
+      → ConfirmsBy (ear_started new.ear) (frames_in (bytes ++ piece)) heard (ear_confirmed new.ear)
   pub holding : (bytes : List ℕ) → HasListened checked was bytes old → IsHolding now new
   pub sees : SeesMore was now
 
@@ -172,7 +147,7 @@ pub record EndsOf (checked : CheckedOf) (viewer : ViewerOf) (bytes : List ℕ) (
   pub ends : EndsFor checked (books_seen viewer) bytes (ear_started new.ear) (ear_refusal new.ear) failed ended why
   pub stays : StaysStarted old.ear new.ear
   pub requested : SaysRequested bytes new
-  pub confirmed : SaysConfirmed bytes new
+  pub reports : ReportsBy (ear_started new.ear) (frames_in bytes) why (ear_confirmed new.ear)
   pub holding : IsHolding viewer new
 
 -- More bytes were read and heard, and the listener ended.

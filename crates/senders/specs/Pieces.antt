@@ -12,7 +12,6 @@ pub record PullsPiece (before after : Option (List ℕ)) (bytes : List ℕ) (old
   pub ear : new.ear ≡ old.ear
   pub same : new.is_requested ≡ old.is_requested
   pub number : new.number ≡ old.number
-  pub confirmed : new.confirmed ≡ old.confirmed
   pub room : length new.piece.items ≡ length old.piece.items
 
 -- No byte was read, as the source says of itself.
@@ -21,7 +20,6 @@ pub record PullsNothing (before after : Option (List ℕ)) (says : Bool) (old ne
   pub ear : new.ear ≡ old.ear
   pub same : new.is_requested ≡ old.is_requested
   pub number : new.number ≡ old.number
-  pub confirmed : new.confirmed ≡ old.confirmed
   pub said : says ≡ true
 
 abbrev pub Pulls : Option (List ℕ) → Option (List ℕ) → Bool → Bool → Listener → Listener → Result Bool Failed → Type 0

@@ -17,7 +17,7 @@ use Rattle.publisher_desk.specs.declared.slot_event.SlotEvent.{SlotEvent}
 use Rattle.senders.specs.declared.end.End.{End}
 use Rattle.senders.specs.declared.outcome.Outcome.{Outcome}
 
--- `confirmed` is a position that a status of its client confirms, or 0. `number` is that of the acquisition of its
+-- `confirmed` is the greatest position that a status of its client confirmed, or 0. `number` is that of the acquisition of its
 -- slot, from 1; 0 if it started no stream.
 pub record ServedOf : Type 0 where
   pub slot : Option ℕ

@@ -74,6 +74,7 @@ pub record Streams (checked : CheckedOf) (slot start : ℕ) (before after : Opti
   pub answered : failed ≡ false → outcome.end ≡ end.Client → why ≡ Some (listener_end.Frame 99)
       → IsTail copy_done written
   pub ends : IsEndOf why failed outcome.end
+  pub refused : why ≡ Some (listener_end.Fault fault.OutOfMemory) → outcome.end ≡ end.Link fault.OutOfMemory
 
 -- It was heard meanwhile.
 pub record RunsOn (checked : CheckedOf) (was now : ViewerOf) (slot start : ℕ) (left now_left : Option (List ℕ))

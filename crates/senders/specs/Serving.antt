@@ -1,12 +1,12 @@
 -- What came of a connection that was served: which stream was started for it, what was written, and why it ended:
 -- PostgreSQL 15, 55.4. Streaming Replication Protocol.
-use Rattle.std.specs.Prelude.{◌≡◌, ◌≢◌, ◌⊎◌, ◌<◌, ℕ, Bool, true, false, List, [], ◌++◌, All, length, Option, Some, None}
+use Rattle.std.specs.Prelude.{◌≡◌, ◌≢◌, ◌⊎◌, ℕ, Bool, true, false, List, [], ◌++◌, All, length, Option, Some, None}
 use Rattle.std.specs.Io.KnownBytes.{Appends, Consumes}
 use Rattle.shard_checker.specs.CheckedView.{CheckedOf}
 use Rattle.tables_log.specs.Commits.{CommitOf}
 use Rattle.copy_frames.specs.Contents.{copy_done}
 use Rattle.copy_frames.specs.declared.frame.Frame.{Frame}
-use Rattle.copy_both.specs.HeardFrames.{AsksFor, BooksOf, HasEnd, HasStatus, IsRefusedStart, Requests, frames_in}
+use Rattle.copy_both.specs.HeardFrames.{AsksFor, BooksOf, HasEnd, IsRefusedStart, Requests, frames_in}
 use Rattle.copy_both.specs.Refusals.{error_response}
 use Rattle.copy_both.specs.Streams.{Move, stream}
 use Rattle.tables_log.specs.Lsn.{commits_before}
@@ -16,6 +16,7 @@ use Rattle.copy_both.specs.declared.link_fault.LinkFault.TheVariants as fault
 use Rattle.copy_both.specs.declared.sql_state.SqlState.{SqlState}
 use Rattle.senders.specs.declared.end.End.{End}
 use Rattle.senders.specs.declared.end.End.TheVariants as end
+use Rattle.senders.specs.Confirming.{ReportsAt}
 use Rattle.senders.specs.Results.{ServedOf, books_seen}
 use Rattle.stream_laws.specs.LayoutRoom.{IsClocked}
 use Rattle.senders.specs.Hearing.{HoldsFault}
@@ -113,8 +114,8 @@ pub data HasClientLeft (source_ended : Bool) (frames : List Frame) (written : Li
 -- ---- all of it
 
 -- What came of a connection from which these bytes were read. Starts and refusals are those of a book that the
--- publisher has had. If it says that its client requested the position where the stream starts, the first frame does;
--- if it says that its client confirmed the log up to a position, a status does.
+-- publisher has had. If it says that its client requested the position where the stream starts, the first frame does.
+-- It says up to where its client confirmed the log, by its statuses.
 pub record IsServedFor (checked : CheckedOf) (bytes : List ℕ) (source_failed source_ended : Bool)
     (before after : Option (List ℕ)) (sink_failed : Bool) (served : ServedOf) : Type 0 where
   pub written : List ℕ
@@ -125,7 +126,7 @@ pub record IsServedFor (checked : CheckedOf) (bytes : List ℕ) (source_failed s
       source_ended sink_failed served.end
   pub requested : (slot start : ℕ) → served.slot ≡ Some slot → served.start ≡ Some start
       → served.is_requested ≡ true → Requests (frames_in bytes) slot start
-  pub confirmed : 0 < served.confirmed → HasStatus (frames_in bytes) served.confirmed
+  pub reports : ReportsAt (started_of served.slot served.start) (frames_in bytes) served.end served.confirmed
   pub left : (slot : ℕ) → served.slot ≡ Some slot → sink_failed ≡ false → served.end ≡ end.Client
       → HasClientLeft source_ended (frames_in bytes) written
 

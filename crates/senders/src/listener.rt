@@ -26,9 +26,8 @@ const SLOTS: usize = 32;
 const PIECE: usize = 16_384;
 
 /// An ear, and the piece that it hears next: the first `filled` bytes; whether the client requested the position where
-/// the stream starts, which is after what was confirmed for the slot; the number of the acquisition of its slot, 0 if
-/// no stream was started; and the position to which the client last moved what is confirmed for the slot, 0 if it moved
-/// it no further.
+/// the stream starts, which is after what was confirmed for the slot; and the number of the acquisition of its slot, 0
+/// if no stream was started.
 #[derive(Drop)]
 pub struct Listener {
     ear: Ear,
@@ -36,7 +35,6 @@ pub struct Listener {
     filled: usize,
     is_requested: bool,
     number: u64,
-    confirmed: Lsn,
     ghost within: { filled ≤ length piece.items },
 }
 
@@ -142,9 +140,9 @@ impl Listener {
     ghost use Rattle.std.specs.Prelude.{◌≡◌, ◌<◌, [], None, IfOk, length};
     ghost use Rattle.std.specs.Arc.{arc_value};
     ghost use Rattle.shard_checker.specs.CheckedView.{checked_view};
-    ghost use Rattle.copy_both.specs.Ears.{ear_refusal, ear_started};
+    ghost use Rattle.copy_both.specs.Ears.{ear_confirmed, ear_refusal, ear_started};
     ghost use Rattle.publisher_desk.specs.Viewers.{new_viewer};
-    ghost use Rattle.senders.specs.Listening.{HasListened, NotesConfirmed, NotesStartIf};
+    ghost use Rattle.senders.specs.Listening.{HasListened, NotesStartIf};
     ghost use Rattle.senders.specs.Pieces.{Pulls};
 
     /// A listener that has heard nothing. The only error is out of memory.
@@ -161,7 +159,6 @@ impl Listener {
             filled: 0,
             is_requested: false,
             number: 0,
-            confirmed: Lsn::new(0),
         })
     }
 
@@ -190,11 +187,11 @@ impl Listener {
         self.is_requested
     }
 
-    /// The position to which its client last moved what is confirmed for the slot; 0 if it moved it no further.
+    /// The greatest position that its client's statuses confirmed; 0 if none did.
     pub(crate) fn confirmed(&self) -> u64
-        ensures { result ≡ self.now.confirmed }
+        ensures { result ≡ ear_confirmed self.now.ear }
     {
-        self.confirmed.to_u64()
+        self.ear.confirmed()
     }
 
     /// The response to a start that was refused; otherwise empty.
@@ -209,19 +206,6 @@ impl Listener {
         ensures { result ≡ self.now.number }
     {
         self.number
-    }
-
-    /// Notes up to where the slot of the stream is now confirmed, if that is further than before the piece.
-    fn confirm(&mut self, before: &[Lsn], book: &Book)
-        ensures { NotesConfirmed before.now book.now self.old self.new }
-    {
-        let Some(stream) = self.ear.stream() else {
-            return;
-        };
-        let now = Lsn::new(book.confirmed(stream.slot));
-        if is_after(before, stream.slot, now) {
-            self.confirmed = now;
-        }
     }
 
     /// The acquisition of the slot of a stream that has just started, which the listener notes; `None` if no stream
@@ -261,7 +245,6 @@ impl StreamTask for Listener {
         let confirmed = confirmed_positions(book);
         let sent = sent_position(self.ear.stream(), connections);
         let heard = hear_piece(&mut self.ear, &self.piece[..self.filled], book, sent);
-        self.confirm(&confirmed, book);
         let acquired = self.acquire(was_started, &confirmed, number);
         let mut was_over = false;
         if let Some(stream) = self.ear.stream() {

@@ -22,7 +22,8 @@ fn hear_piece<P: Publishing, R: Wait>(
 ) -> Listened
     ensures hears { HearsPiece P.checked viewer.old viewer.new (piece_of listener.old) listener.old.ear
         listener.new.ear result.heard }
-    ensures requested { SaysOfPiece P.checked viewer.old viewer.new (piece_of listener.old) listener.old listener.new }
+    ensures says { SaysOfPiece P.checked viewer.old viewer.new (piece_of listener.old) listener.old listener.new
+        result.heard }
     ensures room { length listener.new.piece.items ≡ length listener.old.piece.items }
 {
     match publisher.with_stream(rt, viewer, listener) {

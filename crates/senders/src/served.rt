@@ -97,8 +97,7 @@ impl<P: Publishing> Served<P> {
         self.outcome.end
     }
 
-    /// The position to which its client last moved what is confirmed for the slot, in bytes of the log; 0 if it moved
-    /// it no further.
+    /// The greatest position that its client's statuses confirmed, in bytes of the log; 0 if none did.
     pub fn confirmed(&self) -> u64
         ensures { result ≡ self.now.confirmed }
     {

@@ -1,4 +1,4 @@
-use Rattle.std.proofs.Common.{subst, sym, ap, ◌∙◌}
+use Rattle.std.proofs.Common.{refl, subst, sym, ap, ◌∙◌}
 use Rattle.std.specs.Prelude.{Bool, Ok}
 use Rattle.senders.specs.Listening.{HearsNext}
 use Rattle.senders.specs.declared.next.Next.{Next}
@@ -20,8 +20,8 @@ returns g c =
     (sym c.next_of.ensures)
     (hears_next g.P.Publishing.checked c.args.viewer.now c.hear_piece-listened.new.viewer (left c.args.reader.now) (left c.pull.new.reader) failed ended
     c.args.listener.now c.pull.new.self c.hear_piece-listened.new.listener pulls
-    c.hear_piece-listened.ensures.room c.hear_piece-listened.ensures.requested c.hear_piece-listened.result.was_over c.hear_piece-listened.result.heard
-    c.hear_piece-listened.ensures.hears)
+    c.hear_piece-listened.ensures.room c.hear_piece-listened.result.heard c.hear_piece-listened.ensures.says
+    c.hear_piece-listened.result.was_over c.hear_piece-listened.result.heard refl c.hear_piece-listened.ensures.hears)
 
 pub returns-in-Err : goal.returns-in-Err
 returns-in-Err g c =

@@ -13,8 +13,8 @@ returns-in-Some-clause-hears g c =
     c.with_stream.new.viewer c.args.listener.now c.with_stream.new.user answer) c.in-Some.is
     c.with_stream.ensures.used)
 
-pub returns-in-Some-clause-requested : goal.returns-in-Some-clause-requested
-returns-in-Some-clause-requested g c =
+pub returns-in-Some-clause-says : goal.returns-in-Some-clause-says
+returns-in-Some-clause-says g c =
     says_used g.P.Publishing.checked c.args.viewer.now c.with_stream.new.viewer c.with_stream.ensures.more
     c.args.listener.now c.with_stream.new.user c.in-Some.listened
     (subst (λ (answer : Option Listened). IsUsedIf ListenerDid g.P.Publishing.checked c.args.viewer.now
@@ -28,8 +28,8 @@ returns-in-None-clause-hears g c =
     heard_nothing g.P.Publishing.checked c.args.viewer.now c.with_stream.new.viewer unused.viewer c.args.listener.now
     c.with_stream.new.user unused.user
 
-pub returns-in-None-clause-requested : goal.returns-in-None-clause-requested
-returns-in-None-clause-requested g c =
+pub returns-in-None-clause-says : goal.returns-in-None-clause-says
+returns-in-None-clause-says g c =
     let unused = subst (λ (answer : Option Listened). IsUsedIf ListenerDid g.P.Publishing.checked c.args.viewer.now
     c.with_stream.new.viewer c.args.listener.now c.with_stream.new.user answer) c.in-None.is c.with_stream.ensures.used in
     says_nothing g.P.Publishing.checked c.args.viewer.now c.with_stream.new.viewer unused.viewer c.args.listener.now

@@ -1,6 +1,7 @@
 use Rattle.std.proofs.Common.{◌∙◌, ap, refl, sym, subst}
 use Rattle.std.specs.Prelude.{false, []}
 use Rattle.shard_checker.specs.CheckedView.{CheckedOf}
+use Rattle.copy_both.specs.Ears.{ear_confirmed}
 use Rattle.publisher_desk.specs.Viewers.{ViewerOf, new_viewer}
 use Rattle.senders.specs.Listening.{HasListened}
 use Rattle.senders.specs.Results.{served_of}
@@ -36,7 +37,7 @@ release_if-requires g c =
     (g.W.Sink.has_failed c.outcome_of-outcome.new.writer) c.in-Ok.listener c.outcome_of-outcome.new.listener
     (subst (λ (viewer : ViewerOf). HasListened checked viewer [] c.in-Ok.listener) (sym c.new-viewer.ensures) fresh)
     c.outcome_of-outcome.result.1 c.outcome_of-outcome.result.0 c.outcome_of-outcome.new.listener.is_requested
-    c.outcome_of-outcome.new.listener.confirmed 0 refl refl
+    (ear_confirmed c.outcome_of-outcome.new.listener.ear) 0 refl refl
     c.outcome_of-outcome.ensures c.compare.new.viewer.held c.compare.ensures.held
 
 pub new-requires-2 : goal.new-requires-2

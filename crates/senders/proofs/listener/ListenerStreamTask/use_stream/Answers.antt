@@ -1,15 +1,15 @@
-use Rattle.std.proofs.Common.{◌≡◌, ◌∙◌, ◌<◌, ℕ, List, Option, ap, is_some, length, slice_index, subst, sym, take, arith}
+use Rattle.std.proofs.Common.{◌≡◌, ◌∙◌, ◌<◌, ℕ, List, Option, ap, is_some, length, refl, slice_index, subst, sym, take, arith}
 use Rattle.filter_tree.specs.Memory.{Answers}
 use Rattle.tables_log.specs.BookView.{book_log, book_slots}
 use Rattle.tables_log.specs.Lsn.{end_lsn_of}
 use Rattle.tables_log.specs.Slots.{confirmed_at}
-use Rattle.copy_both.specs.Ears.{ChangesUse, HearLeaves, ear_phase, ear_started, hear_answer}
+use Rattle.copy_both.specs.Ears.{HearLeaves, ear_phase, ear_started, hear_answer}
 use Rattle.copy_both.specs.Voices.{reported_fault}
 use Rattle.copy_both.specs.declared.ear.Ear.{Ear}
 use Rattle.copy_both.proofs.StartUses.{starts_take_slots}
 use Rattle.senders.specs.Hearing.{IsSentFrom, sent_by}
 use Rattle.senders.specs.Listening.{piece_of}
-use Rattle.senders.proofs.StartingLemmas.{acquires_for, compares_by, confirms_by, ear_kept, may_acquire, room_kept}
+use Rattle.senders.proofs.StartingLemmas.{acquires_for, compares_by, ear_kept, may_acquire, room_kept}
 use Rattle.senders.proofs.listener.ListenerStreamTask.use_stream.Goals as goal
 
 module _ (c : goal.Joined-stream) where
@@ -30,11 +30,10 @@ returns-clause-did c =
     let was_is = c.is_some-was_started.ensures ∙ ap is_some c.stream.ensures in
     let same = ear_kept c.args.self.now _ c.acquire-acquired.new.self c.args.book.now c.hear_piece-heard.new.book
     c.is_some-was_started.result c.confirmed_positions-confirmed.result c.args.number was_is (positions c)
-    c.confirm.ensures.number_is c.confirm.ensures.requested_is c.acquire-acquired.result c.acquire-acquired.ensures
-    ∙ c.confirm.ensures.ear_is in
+    refl refl c.acquire-acquired.result c.acquire-acquired.ensures in
     let compares = compares_by c.args.self.now _ c.acquire-acquired.new.self c.args.book.now c.hear_piece-heard.new.book
     c.is_some-was_started.result c.confirmed_positions-confirmed.result c.args.number was_is (positions c)
-    c.confirm.ensures.number_is c.confirm.ensures.requested_is c.acquire-acquired.result c.acquire-acquired.ensures in (
+    refl refl c.acquire-acquired.result c.acquire-acquired.ensures in (
       record {
         answer = subst (λ (piece : List ℕ). Answers (λ heard. heard) reported_fault (hear_answer c.args.self.now.ear
             c.args.book.now piece (sent_by (ear_started c.args.self.now.ear) c.args.connections.now))
@@ -58,18 +57,12 @@ returns-clause-did c =
             (c.hear_piece-heard.ensures.reaches ahead);
         room = room_kept c.args.self.now _ c.acquire-acquired.new.self c.args.book.now c.hear_piece-heard.new.book
             c.is_some-was_started.result c.confirmed_positions-confirmed.result c.args.number was_is (positions c)
-            c.confirm.ensures.number_is c.confirm.ensures.requested_is c.acquire-acquired.result c.acquire-acquired.ensures
-            ∙ c.confirm.ensures.room;
+            refl refl c.acquire-acquired.result c.acquire-acquired.ensures;
         compares = record { late = compares.late; stays = compares.stays };
-        confirms = confirms_by c.args.self.now _ c.acquire-acquired.new.self c.args.book.now c.hear_piece-heard.new.book
-            c.is_some-was_started.result c.confirmed_positions-confirmed.result c.args.number was_is (positions c)
-            c.confirm.ensures.number_is c.confirm.ensures.requested_is c.acquire-acquired.result
-            c.acquire-acquired.ensures c.hear_piece-heard.new.ear c.confirm.ensures.ear_is
-            c.confirm.ensures.confirmed_is;
       },
       acquires_for c.args.self.now _ c.acquire-acquired.new.self c.args.book.now c.hear_piece-heard.new.book
           c.is_some-was_started.result c.confirmed_positions-confirmed.result c.args.number was_is (positions c)
-          c.confirm.ensures.number_is c.confirm.ensures.requested_is c.acquire-acquired.result c.acquire-acquired.ensures,
+          refl refl c.acquire-acquired.result c.acquire-acquired.ensures,
     )
 
 pub returns-clause-acquires : goal.returns-clause-acquires
@@ -77,8 +70,6 @@ returns-clause-acquires c =
     let was_is = c.is_some-was_started.ensures ∙ ap is_some c.stream.ensures in
     may_acquire c.args.self.now _ c.acquire-acquired.new.self c.args.book.now c.hear_piece-heard.new.book
     c.is_some-was_started.result c.confirmed_positions-confirmed.result c.args.number was_is (positions c)
-    c.confirm.ensures.number_is c.confirm.ensures.requested_is c.acquire-acquired.result c.acquire-acquired.ensures
-    (subst (λ (ear : Ear). ChangesUse (ear_started c.args.self.now.ear) (ear_started ear) (book_slots c.args.book.now)
-    (book_slots c.hear_piece-heard.new.book)) (sym c.confirm.ensures.ear_is)
+    refl refl c.acquire-acquired.result c.acquire-acquired.ensures
     (starts_take_slots c.args.self.now.ear c.hear_piece-heard.new.ear c.args.book.now c.hear_piece-heard.new.book
-    _ _ c.hear_piece-heard.result c.hear_piece-heard.ensures.left))
+    _ _ c.hear_piece-heard.result c.hear_piece-heard.ensures.left)
