@@ -1,5 +1,5 @@
 -- Up to where a client confirmed the log, by all of its frames that were heard, after another piece.
-use Rattle.std.proofs.Common.{◌≡◌, ℕ, ◌<◌, ◌≤◌, ◌==◌, min, max, Bool, true, false, if◌then◌else◌, List, [], ◌∷◌, ◌++◌, take, drop, refl, sym, ap, subst, ◌∙◌, append_assoc, append-nil, arith}
+use Rattle.std.proofs.Common.{◌≡◌, ◌≢◌, ℕ, ◌<◌, ◌≤◌, ◌==◌, min, max, Bool, true, false, if◌then◌else◌, List, [], ◌∷◌, ◌++◌, take, drop, refl, sym, ap, subst, ◌∙◌, append_assoc, append-nil, arith}
 use Rattle.std.specs.Prelude.{Option, Some, None, Result, Ok, Err, nat_lt}
 use Rattle.std.proofs.lemmas.Bool.{ltb-true}
 use Rattle.std.proofs.lemmas.List.{take-append-drop}
@@ -10,8 +10,9 @@ use Rattle.tables_log.specs.Lsn.{end_lsn_of}
 use Rattle.tables_log.specs.declared.book.Book.{Book}
 use Rattle.copy_frames.specs.Frames.{fault_in}
 use Rattle.copy_frames.specs.declared.fault.FrameFault.{FrameFault}
+use Rattle.copy_frames.specs.declared.fault.FrameFault.TheVariants as frame
 use Rattle.copy_frames.specs.declared.frame.Frame.{Frame}
-use Rattle.copy_both.specs.ConfirmedFrames.{AreUnheard, ConfirmationsAreHeard, HasConfirmedIf, IsStop, StopsAt, UnheardAt, confirmed_in, flushed_by}
+use Rattle.copy_both.specs.ConfirmedFrames.{AreStatuses, AreUnheard, ConfirmationsAreHeard, HasConfirmedAll, HasConfirmedIf, IsStatusBy, IsStop, StopsAt, UnheardAt, confirmed_in, flushed_by}
 use Rattle.copy_both.specs.Ears.{HearLeaves, HearsPiece, answer_in, ear_confirmed, ear_heard, ear_started}
 use Rattle.copy_both.specs.Events.{event_of}
 use Rattle.copy_both.specs.HeardFrames.{BooksOf, HasHeard, IsStartedBy, frames_in, reach_of, sent_then}
@@ -25,10 +26,10 @@ use Rattle.copy_both.specs.declared.event.Event.TheVariants as event
 use Rattle.copy_both.specs.declared.heard.Heard.{Heard}
 use Rattle.copy_both.specs.declared.link_fault.LinkFault.{LinkFault}
 use Rattle.copy_both.specs.declared.link_fault.LinkFault.TheVariants as fault
-use Rattle.copy_both.proofs.FrameRuns.{fault_over, over_by_end, query_of}
+use Rattle.copy_both.proofs.FrameRuns.{fault_over, over_by_end}
 use Rattle.copy_both.proofs.HearingLemmas.{over_stays}
 use Rattle.copy_both.proofs.LinkLemmas.{fault_started, frames_started}
-use Rattle.copy_both.proofs.PiecesHeard.{err_faulty, fault_stays, ok_faultless}
+use Rattle.copy_both.proofs.PiecesHeard.{err_faulty, length_fault, ok_faultless}
 use Rattle.copy_both.proofs.StatusesHeard.{all_frames, of_piece}
 
 max_assoc : (a b c : ℕ) → max (max a b) c ≡ max a (max b c)
@@ -41,57 +42,64 @@ confirmed_append (frame ∷ frames) more =
     ap (max (flushed_by (event_of frame.kind frame.body))) rest
     ∙ sym (max_assoc (flushed_by (event_of frame.kind frame.body)) (confirmed_in frames) (confirmed_in more))
 
--- ---- where hearing stops
-
-event_at_all : (reach : ℕ) (e : Result Event LinkFault) → IsStop None e → IsStop (Some reach) e
-event_at_all reach (Ok (event.Status status)) stop = absurd stop
-event_at_all reach (Ok (event.End kind)) stop = tt
-event_at_all reach (Err f) stop = tt
-
--- wherever no status stops it
-pub stops_at_all : (reach : ℕ) (rest : List Frame) → StopsAt None rest → StopsAt (Some reach) rest
-stops_at_all reach [] stops = tt
-stops_at_all reach (frame ∷ frames) stops = event_at_all reach (event_of frame.kind frame.body) stops
-
-event_lower : (low high : ℕ) → low ≤ high → (e : Result Event LinkFault) → IsStop (Some high) e → IsStop (Some low) e
-event_lower low high less (Ok (event.Status status)) stop = omega (arith, less, stop)
-event_lower low high less (Ok (event.End kind)) stop = tt
-event_lower low high less (Err f) stop = tt
+statuses_append : (frames more : List Frame) → AreStatuses frames → AreStatuses more → AreStatuses (frames ++ more)
+statuses_append [] more are others = others
+statuses_append (frame ∷ frames) more are others = (are.0, statuses_append frames more are.1 others)
 
 -- a status that is after one position is after a lower one
-pub stops_lower : (low high : ℕ) → low ≤ high → (rest : List Frame) → StopsAt (Some high) rest → StopsAt (Some low) rest
-stops_lower low high less [] stops = tt
-stops_lower low high less (frame ∷ frames) stops = event_lower low high less (event_of frame.kind frame.body) stops
+event_lower : (found : Option LinkFault) (low high : ℕ) → low ≤ high → (e : Result Event LinkFault)
+    → IsStop found high e → IsStop found low e
+event_lower found low high less (Ok (event.Status status)) stop = let after = stop.1 in (stop.0, omega (arith, less, after))
+event_lower found low high less (Ok (event.End kind)) stop = stop
+event_lower found low high less (Err f) stop = stop
+
+pub stops_lower : (found : Option LinkFault) (low high : ℕ) → low ≤ high → (rest : List Frame)
+    → StopsAt found high rest → StopsAt found low rest
+stops_lower found low high less [] stops = stops
+stops_lower found low high less (frame ∷ frames) stops =
+    event_lower found low high less (event_of frame.kind frame.body) stops
+
+-- any position will do where no status stops it
+event_other : (found : Option LinkFault) (low high : ℕ) → found ≢ Some fault.StatusAhead → (e : Result Event LinkFault)
+    → IsStop found high e → IsStop found low e
+event_other found low high other (Ok (event.Status status)) stop = absurd (other stop.0)
+event_other found low high other (Ok (event.End kind)) stop = stop
+event_other found low high other (Err f) stop = stop
+
+pub stops_other : (found : Option LinkFault) (low high : ℕ) → found ≢ Some fault.StatusAhead → (rest : List Frame)
+    → StopsAt found high rest → StopsAt found low rest
+stops_other found low high other [] stops = stops
+stops_other found low high other (frame ∷ frames) stops =
+    event_other found low high other (event_of frame.kind frame.body) stops
 
 -- ---- frames while a stream runs
 
--- hearing stopped at these frames, if there are any
-data Stops (reach : ℕ) (rest : List Frame) (f : Option LinkFault) : Type 0 where
-  Breaks : StopsAt None rest → Stops reach rest f
-  Ahead : StopsAt (Some reach) rest → f ≡ Some fault.StatusAhead → Stops reach rest f
-
--- the first of these frames were heard, and hearing stopped at the others
+-- the first of these frames are statuses that were heard, and hearing stopped at the others
 record HeardFront (reach : ℕ) (frames : List Frame) (h last : HearingOf) : Type 0 where
   pub front : List Frame
   pub rest : List Frame
   pub frames_are : frames ≡ front ++ rest
+  pub statuses : AreStatuses front
   pub confirmed_is : last.confirmed ≡ max h.confirmed (confirmed_in front)
   pub going : is_over last ≡ false → rest ≡ []
-  pub stops : Stops reach rest last.fault
+  pub stops : StopsAt last.fault reach rest
 
 module _ (served : ServedFrom) (reach : ℕ) where
-  no_front : (h : HearingOf) → HeardFront reach [] h h
-  no_front h = record {
+  no_front : (h : HearingOf) → is_over h ≡ false → HeardFront reach [] h h
+  no_front h still = record {
     front = [];
     rest = [];
     frames_are = refl;
+    statuses = tt;
     confirmed_is = omega arith;
     going = λ none. refl;
-    stops = Breaks tt;
+    stops = λ ahead.
+        let none : h.fault ≡ None = fault_over h.fault h.heard.ended still in
+        absurd (let no : None ≡ Some fault.StatusAhead = sym none ∙ ahead in cc);
   }
 
   stop_here : (frame : Frame) (frames : List Frame) (h next : HearingOf) → next.confirmed ≡ h.confirmed
-      → is_over next ≡ true → Stops reach (frame ∷ frames) next.fault
+      → is_over next ≡ true → StopsAt next.fault reach (frame ∷ frames)
       → HeardFront reach (frame ∷ frames) h (frames_heard served next frames)
   stop_here frame frames h next same over stops =
       let last : frames_heard served next frames ≡ next = over_stays served next frames over in
@@ -99,18 +107,21 @@ module _ (served : ServedFrom) (reach : ℕ) where
         front = [];
         rest = frame ∷ frames;
         frames_are = refl;
+        statuses = tt;
         confirmed_is = let kept = ap (λ (x : HearingOf). x.confirmed) last in omega (arith, kept, same);
         going = λ none. absurd (let no : true ≡ false = sym over ∙ (sym (ap is_over last) ∙ none) in cc);
-        stops = subst (λ (x : HearingOf). Stops reach (frame ∷ frames) x.fault) (sym last) stops;
+        stops = subst (λ (x : HearingOf). StopsAt x.fault reach (frame ∷ frames)) (sym last) stops;
       }
 
   go_on : (frame : Frame) (frames : List Frame) (h next last : HearingOf)
+      → IsStatusBy (event_of frame.kind frame.body)
       → next.confirmed ≡ max h.confirmed (flushed_by (event_of frame.kind frame.body))
       → HeardFront reach frames next last → HeardFront reach (frame ∷ frames) h last
-  go_on frame frames h next last more heard = record {
+  go_on frame frames h next last is more heard = record {
     front = frame ∷ heard.front;
     rest = heard.rest;
     frames_are = ap (λ (x : List Frame). frame ∷ x) heard.frames_are;
+    statuses = (is, heard.statuses);
     confirmed_is = heard.confirmed_is ∙ ap (λ n. max n (confirmed_in heard.front)) more
         ∙ max_assoc h.confirmed (flushed_by (event_of frame.kind frame.body)) (confirmed_in heard.front);
     going = heard.going;
@@ -126,10 +137,11 @@ module _ (served : ServedFrom) (reach : ℕ) where
       → HeardFront reach (frame ∷ frames) h (frames_heard served (event_heard served s.0 e h) frames)
   event_front frame frames h s runs on (Err f) is =
       stop_here frame frames h (with_fault f h) refl refl
-      (Breaks (subst (λ (e : Result Event LinkFault). IsStop None e) (sym is) tt))
+      (subst (λ (e : Result Event LinkFault). IsStop (Some f) reach e) (sym is) refl)
   event_front frame frames h s runs on (Ok (event.End kind)) is =
       stop_here frame frames h (ended_by kind h) refl (over_by_end h.fault kind)
-      (Breaks (subst (λ (e : Result Event LinkFault). IsStop None e) (sym is) tt))
+      (subst (λ (e : Result Event LinkFault). IsStop h.fault reach e) (sym is)
+      (fault_over h.fault h.heard.ended runs.1))
   event_front frame frames h s runs on (Ok (event.Status status)) is =
       let limit : ℕ = min h.sent (end_lsn_of served.commits) in
       let Goal : Bool → Type 0 =
@@ -137,18 +149,19 @@ module _ (served : ServedFrom) (reach : ℕ) where
       by_test (nat_lt limit status.flushed)
       (λ ahead. subst Goal (sym ahead)
       (stop_here frame frames h (with_fault fault.StatusAhead h) refl refl
-      (Ahead (subst (λ (e : Result Event LinkFault). IsStop (Some reach) e) (sym is)
-      (subst (λ (n : ℕ). n < status.flushed) runs.2 (ltb-true limit status.flushed ahead))) refl)))
+      (subst (λ (e : Result Event LinkFault). IsStop (Some fault.StatusAhead) reach e) (sym is)
+      (refl, subst (λ (n : ℕ). n < status.flushed) runs.2 (ltb-true limit status.flushed ahead)))))
       (λ within. subst Goal (sym within)
       (go_on frame frames h (confirmed_by false s.0 status h)
       (frames_heard served (confirmed_by false s.0 status h) frames)
+      (subst (λ (e : Result Event LinkFault). IsStatusBy e) (sym is) tt)
       (ap (λ (e : Result Event LinkFault). max h.confirmed (flushed_by e)) (sym is))
       (on (confirmed_by false s.0 status h) (runs.0, runs.1, runs.2))))
 
   stream_front : (frames : List Frame) (h : HearingOf) (s : ℕ × ℕ) → Runs h s
       → HeardFront reach frames h (frames_heard served h frames)
   unfolding frames_heard
-  stream_front [] h s runs = no_front h
+  stream_front [] h s runs = no_front h runs.1
   stream_front (frame ∷ frames) h s runs =
       let step : frame_heard served h frame ≡ event_heard served s.0 (event_of frame.kind frame.body) h =
       ap (λ b. unless_over b h (next_heard served frame h.started h)) runs.1
@@ -159,14 +172,16 @@ module _ (served : ServedFrom) (reach : ℕ) where
 
 -- ---- frames from the first on
 
--- of all frames of a connection, the first were heard, and hearing stopped at the others
+-- of all frames of a connection, statuses after the first one were heard, and hearing stopped at the others
 record ConfirmedFront (reach : ℕ) (frames : List Frame) (last : HearingOf) : Type 0 where
+  pub first : Frame
   pub front : List Frame
   pub rest : List Frame
-  pub frames_are : frames ≡ front ++ rest
+  pub frames_are : frames ≡ first ∷ front ++ rest
+  pub statuses : AreStatuses front
   pub confirmed_is : last.confirmed ≡ confirmed_in front
   pub going : is_over last ≡ false → rest ≡ []
-  pub stops : Stops reach rest last.fault
+  pub stops : StopsAt last.fault reach rest
 
 module _ (served : ServedFrom) (was : Option (ℕ × ℕ)) (sent : ℕ) where
   abbrev reached : Option (ℕ × ℕ) → ℕ
@@ -184,32 +199,29 @@ module _ (served : ServedFrom) (was : Option (ℕ × ℕ)) (sent : ℕ) where
       (sym (ap (λ (x : HearingOf). x.started) same ∙ none)) (ap (λ (x : HearingOf). x.confirmed) same ∙ zero)
 
 module _ (served : ServedFrom) (sent : ℕ) where
-  query_flushes : (kind : ℕ) (body : List ℕ) → kind ≡ 81 → flushed_by (event_of kind body) ≡ 0
-  query_flushes kind body query = ap (λ (k : ℕ). flushed_by (event_of k body)) query
-
   begins_front : (frame : Frame) (frames : List Frame) (h : HearingOf) (b : BeginOf)
-      → begin_of served h.slots frame.kind frame.body ≡ b → h.started ≡ None → is_over h ≡ false → h.confirmed ≡ 0
+      → h.started ≡ None → is_over h ≡ false → h.confirmed ≡ 0
       → ConfirmsFront served None sent (frames_heard served (begun b h) frames).started (frame ∷ frames)
       (frames_heard served (begun b h) frames)
-  begins_front frame frames h (Begins stream start) is none going zero =
+  begins_front frame frames h (Begins stream start) none going zero =
       let next : HearingOf = begun (Begins stream start) h in
       let last : HearingOf = frames_heard served next frames in
       let reach : ℕ = min (first_sent start) (end_lsn_of served.commits) in
       let on : HeardFront reach frames next last =
       stream_front served reach frames next (stream, start) (refl, going, refl) in
-      let first : flushed_by (event_of frame.kind frame.body) ≡ 0 =
-      query_flushes frame.kind frame.body (query_of served h.slots frame.kind frame.body stream start is) in
       subst (λ (o : Option (ℕ × ℕ)). ConfirmsFront served None sent o (frame ∷ frames) last)
       (sym (frames_started served next frames (stream, start) refl))
       (record {
-        front = frame ∷ on.front;
+        first = frame;
+        front = on.front;
         rest = on.rest;
         frames_are = ap (λ (x : List Frame). frame ∷ x) on.frames_are;
-        confirmed_is = on.confirmed_is ∙ ap (λ n. max n (confirmed_in on.front)) (zero ∙ sym first);
+        statuses = on.statuses;
+        confirmed_is = let most = on.confirmed_is in omega (arith, most, zero);
         going = on.going;
         stops = on.stops;
       })
-  begins_front frame frames h (Refuses refusal) is none going zero =
+  begins_front frame frames h (Refuses refusal) none going zero =
       none_front served None sent (frame ∷ frames) (begun (Refuses refusal) h)
       (frames_heard served (begun (Refuses refusal) h) frames)
       (over_stays served (begun (Refuses refusal) h) frames refl) none zero
@@ -231,18 +243,18 @@ module _ (served : ServedFrom) (sent : ℕ) where
       (none_front served None sent (frame ∷ frames) (ended_by 88 h) (frames_heard served (ended_by 88 h) frames)
       (over_stays served (ended_by 88 h) frames (over_by_end h.fault 88)) none zero))
       (λ other. subst Goal (sym (ap (λ b. if b then ended_by 88 h else begun begins h) other))
-      (begins_front frame frames h begins refl none going zero)))
+      (begins_front frame frames h begins none going zero)))
 
   -- frames that are heard after others
   heard_front : (checked : CheckedOf) (known : BooksOf) (earlier frames : List Frame) (h : HearingOf)
       (was : Option (ℕ × ℕ)) → h.started ≡ was → h.sent ≡ sent → IsStartedBy checked known earlier was
-      → is_over h ≡ false → h.confirmed ≡ confirmed_in earlier
+      → is_over h ≡ false → HasConfirmedAll was earlier h.confirmed
       → ConfirmsFront served was sent (frames_heard served h frames).started (earlier ++ frames)
       (frames_heard served h frames)
   heard_front checked known earlier frames h None is same none going so_far =
       subst (λ (x : List Frame). ConfirmsFront served None sent (frames_heard served h frames).started (x ++ frames)
       (frames_heard served h frames)) (sym none)
-      (first_front frames h is going (so_far ∙ ap confirmed_in none))
+      (first_front frames h is going so_far)
   heard_front checked known earlier frames h (Some s) is same asks going so_far =
       let last : HearingOf = frames_heard served h frames in
       let reach : ℕ = min sent (end_lsn_of served.commits) in
@@ -251,12 +263,15 @@ module _ (served : ServedFrom) (sent : ℕ) where
       subst (λ (o : Option (ℕ × ℕ)). ConfirmsFront served (Some s) sent o (earlier ++ frames) last)
       (sym (frames_started served h frames s is))
       (record {
-        front = earlier ++ on.front;
+        first = so_far.first;
+        front = so_far.others ++ on.front;
         rest = on.rest;
         frames_are = ap (λ (x : List Frame). earlier ++ x) on.frames_are
-            ∙ sym (append_assoc earlier on.front on.rest);
-        confirmed_is = on.confirmed_is ∙ ap (λ n. max n (confirmed_in on.front)) so_far
-            ∙ sym (confirmed_append earlier on.front);
+            ∙ ap (λ (x : List Frame). x ++ (on.front ++ on.rest)) so_far.frames_are
+            ∙ ap (λ (x : List Frame). so_far.first ∷ x) (sym (append_assoc so_far.others on.front on.rest));
+        statuses = statuses_append so_far.others on.front so_far.statuses on.statuses;
+        confirmed_is = on.confirmed_is ∙ ap (λ n. max n (confirmed_in on.front)) so_far.confirmed_is
+            ∙ sym (confirmed_append so_far.others on.front);
         going = on.going;
         stops = on.stops;
       })
@@ -304,41 +319,54 @@ module _ (served : ServedFrom) (was : Option (ℕ × ℕ)) (sent : ℕ) where
   wanted : (o : Option (ℕ × ℕ)) (frames more all : List Frame) (last : HearingOf) (result : Result Heard LinkFault)
       (confirmed : ℕ) → confirmed ≡ last.confirmed → frames ++ more ≡ all
       → ConfirmsFront served was sent o frames last
-      → ((reach : ℕ) (rest : List Frame) → Stops reach rest last.fault → (is_over last ≡ false → rest ≡ [])
+      → ((reach : ℕ) (rest : List Frame) → StopsAt last.fault reach rest → (is_over last ≡ false → rest ≡ [])
       → AreUnheard reach (rest ++ more) result)
       → HasConfirmedIf o all (reached served was sent o) result confirmed
   wanted None frames more all last result confirmed same split front unheard = same ∙ front
   wanted (Some s) frames more all last result confirmed same split front unheard = record {
+    first = front.first;
     front = front.front;
     rest = front.rest ++ more;
     frames_are = sym split ∙ ap (λ (x : List Frame). x ++ more) front.frames_are
-        ∙ append_assoc front.front front.rest more;
+        ∙ ap (λ (x : List Frame). front.first ∷ x) (append_assoc front.front front.rest more);
+    statuses = front.statuses;
     confirmed_is = same ∙ front.confirmed_is;
     unheard = unheard (reached served was sent (Some s)) front.rest front.stops front.going;
   }
 
 -- which frames were not heard, by the fault
-no_break : (f : Option LinkFault) (g : LinkFault) → f ≡ Some fault.StatusAhead → f ≡ Some g → g ≡ fault.StatusAhead
-no_break f g ahead some = let both : Some g ≡ Some fault.StatusAhead = sym some ∙ ahead in cc
+unheard_ok : (reach : ℕ) (rest : List Frame) (ended : Option ℕ) → StopsAt None reach rest
+    → (ended ≡ None → rest ≡ []) → UnheardAt reach rest ended
+unheard_ok reach rest None stops going = going refl
+unheard_ok reach rest (Some kind) stops going = stops
 
-unheard_ok : (reach : ℕ) (rest : List Frame) (f : Option LinkFault) (ended : Option ℕ) → f ≡ None
-    → Stops reach rest f → (ended ≡ None → rest ≡ []) → UnheardAt rest ended
-unheard_ok reach rest f None good stops going = going refl
-unheard_ok reach rest f (Some kind) good (Breaks stops) going = stops
-unheard_ok reach rest f (Some kind) good (Ahead stops some) going =
-    absurd (let no : None ≡ Some fault.StatusAhead = sym good ∙ some in cc)
+-- a length has a fault
+length_stops : (f : FrameFault) (g : LinkFault) → Some (link_fault f) ≡ Some g → Some g ≢ Some fault.StatusAhead
+length_stops frame.BadLength g same ahead = cc
+length_stops frame.FrameTooLong g same ahead = cc
+length_stops frame.OutOfMemory g same ahead = cc
 
-ahead_stops : (reach : ℕ) (rest : List Frame) (f : Option LinkFault) → Stops reach rest f → StopsAt (Some reach) rest
-ahead_stops reach rest f (Breaks stops) = stops_at_all reach rest stops
-ahead_stops reach rest f (Ahead stops some) = stops
+after_length : (f : Option FrameFault) (last : HearingOf) (g : LinkFault) → is_over last ≡ false
+    → (then_fault f last).fault ≡ Some g → Some g ≢ Some fault.StatusAhead
+after_length None last g going some =
+    absurd (let none = fault_over last.fault last.heard.ended going in
+    let no : None ≡ Some g = sym none ∙ some in cc)
+after_length (Some f) last g going some = length_stops f g (sym (length_fault f last going) ∙ some)
 
-break_stops : (reach : ℕ) (rest : List Frame) (f : Option LinkFault) → ¬ (f ≡ Some fault.StatusAhead)
-    → Stops reach rest f → StopsAt None rest
-break_stops reach rest f other (Breaks stops) = stops
-break_stops reach rest f other (Ahead stops some) = absurd (other some)
+fault_stops : (f : Option FrameFault) (last : HearingOf) (g : LinkFault) → answer_of (then_fault f last) ≡ Err g
+    → (reach : ℕ) (rest : List Frame) → StopsAt last.fault reach rest → (is_over last ≡ false → rest ≡ [])
+    → StopsAt (Some g) reach rest
+fault_stops f last g is reach rest stops going =
+    let total : HearingOf = then_fault f last in
+    let some : total.fault ≡ Some g = err_faulty total.fault (reported_heard total.heard) g is in
+    by_test (is_over last)
+    (λ over.
+    let kept : total ≡ last = over_kept f last over in
+    subst (λ (o : Option LinkFault). StopsAt o reach rest) (sym (ap (λ (x : HearingOf). x.fault) kept) ∙ some) stops)
+    (λ on. subst (StopsAt (Some g) reach) (sym (going on)) (after_length f last g on some))
 
 module _ (checked : CheckedOf) (known : BooksOf) (bytes piece : List ℕ) (old new : Ear) (before after : Book) (sent : ℕ)
-    (has : HasHeard checked known bytes old) (so_far : ear_confirmed old ≡ confirmed_in (frames_in bytes)) where
+    (has : HasHeard checked known bytes old) (so_far : HasConfirmedAll (ear_started old) (frames_in bytes) (ear_confirmed old)) where
   abbrev frames : List Frame
   frames = of_piece checked known bytes piece old new before after sent has
 
@@ -362,7 +390,7 @@ module _ (checked : CheckedOf) (known : BooksOf) (bytes piece : List ℕ) (old n
   by_some : (some left : List Frame) → some ++ left ≡ frames → (result : Result Heard LinkFault)
       → ear_started new ≡ (frames_heard served start some).started
       → ear_confirmed new ≡ (frames_heard served start some).confirmed
-      → ((reach : ℕ) (rest : List Frame) → Stops reach rest (frames_heard served start some).fault
+      → ((reach : ℕ) (rest : List Frame) → StopsAt (frames_heard served start some).fault reach rest
       → (is_over (frames_heard served start some) ≡ false → rest ≡ []) → AreUnheard reach (rest ++ left) result)
       → Wanted result
   by_some some left split result is same unheard =
@@ -386,54 +414,40 @@ module _ (checked : CheckedOf) (known : BooksOf) (bytes piece : List ℕ) (old n
   abbrev total : HearingOf
   total = frames_heard served start frames
 
-  abbrev length_fault : Option FrameFault
-  length_fault = fault_in old.frames.limit (old.frames.bytes ++ piece)
+  abbrev of_length : Option FrameFault
+  of_length = fault_in old.frames.limit (old.frames.bytes ++ piece)
 
   by_all : Leaves old.session new.session before after (piece_heard old.session before old.frames piece sent)
       → (result : Result Heard LinkFault)
-      → ((reach : ℕ) (rest : List Frame) → Stops reach rest total.fault
+      → ((reach : ℕ) (rest : List Frame) → StopsAt total.fault reach rest
       → (is_over total ≡ false → rest ≡ []) → AreUnheard reach rest result)
       → Wanted result
   by_all leaves result unheard =
-      by_some frames [] (append-nil frames) result (leaves.started ∙ fault_started length_fault total)
-      (leaves.confirmed ∙ fault_confirmed length_fault total)
+      by_some frames [] (append-nil frames) result (leaves.started ∙ fault_started of_length total)
+      (leaves.confirmed ∙ fault_confirmed of_length total)
       (λ reach rest stops going. subst (λ (x : List Frame). AreUnheard reach x result) (sym (append-nil rest))
       (unheard reach rest stops going))
-
-  -- a status that was ahead is the fault that is reported
-  not_ahead : (g : LinkFault) → answer_of (then_fault length_fault total) ≡ Err g → ¬ (g ≡ fault.StatusAhead)
-      → ¬ (total.fault ≡ Some fault.StatusAhead)
-  not_ahead g is other ahead =
-      let all : HearingOf = then_fault length_fault total in
-      other (no_break all.fault g (fault_stays length_fault total fault.StatusAhead ahead)
-      (err_faulty all.fault (reported_heard all.heard) g is))
-
-  by_fault : (g : LinkFault) → answer_of (then_fault length_fault total) ≡ Err g → ¬ (g ≡ fault.StatusAhead)
-      → (reach : ℕ) (rest : List Frame) → Stops reach rest total.fault → StopsAt None rest
-  by_fault g is other reach rest stops = break_stops reach rest total.fault (not_ahead g is other) stops
 
   by_piece : (result : Result Heard LinkFault)
       → Answers (λ heard. heard) reported_fault (answer_of (ear_heard old before piece sent)) result
       → PieceLeaves result old.frames piece sent old.session new.session before after → Wanted result
   by_piece (Ok heard) is left =
       by_all left (Ok heard) (λ reach rest stops going.
-      unheard_ok reach rest total.fault heard.ended (ok_fault length_fault total heard is) stops
-      (λ none. going (goes_by length_fault total heard is none)))
+      unheard_ok reach rest heard.ended
+      (subst (λ (o : Option LinkFault). StopsAt o reach rest) (ok_fault of_length total heard is) stops)
+      (λ none. going (goes_by of_length total heard is none)))
   by_piece (Err fault.OutOfMemory) is left = by_part left
   by_piece (Err fault.StatusAhead) is left =
-      by_all left (Err fault.StatusAhead) (λ reach rest stops going. ahead_stops reach rest total.fault stops)
+      by_all left (Err fault.StatusAhead) (fault_stops of_length total fault.StatusAhead is)
   by_piece (Err fault.FrameTooLong) is left =
-      by_all left (Err fault.FrameTooLong) (λ reach rest stops going. by_fault fault.FrameTooLong is (λ e. cc) reach rest stops)
+      by_all left (Err fault.FrameTooLong) (fault_stops of_length total fault.FrameTooLong is)
   by_piece (Err fault.BadLength) is left =
-      by_all left (Err fault.BadLength) (λ reach rest stops going. by_fault fault.BadLength is (λ e. cc) reach rest stops)
+      by_all left (Err fault.BadLength) (fault_stops of_length total fault.BadLength is)
   by_piece (Err (fault.Unexpected byte)) is left =
-      by_all left (Err (fault.Unexpected byte))
-      (λ reach rest stops going. by_fault (fault.Unexpected byte) is (λ e. cc) reach rest stops)
+      by_all left (Err (fault.Unexpected byte)) (fault_stops of_length total (fault.Unexpected byte) is)
   by_piece (Err (fault.BadStart state)) is left =
-      by_all left (Err (fault.BadStart state))
-      (λ reach rest stops going. by_fault (fault.BadStart state) is (λ e. cc) reach rest stops)
-  by_piece (Err fault.Closed) is left =
-      by_all left (Err fault.Closed) (λ reach rest stops going. by_fault fault.Closed is (λ e. cc) reach rest stops)
+      by_all left (Err (fault.BadStart state)) (fault_stops of_length total (fault.BadStart state) is)
+  by_piece (Err fault.Closed) is left = by_all left (Err fault.Closed) (fault_stops of_length total fault.Closed is)
 
 pub confirmations_are_heard : ConfirmationsAreHeard
 confirmations_are_heard checked known bytes piece old new before after sent result has answer left so_far =

@@ -51,7 +51,7 @@ err_faulty None heard g is = absurd cc
 err_faulty (Some f) heard g is = let same : f ≡ g = cc in ap Some same
 
 -- a fault stays, and so does an end
-pub fault_stays : (f : Option FrameFault) (last : HearingOf) (g : LinkFault) → last.fault ≡ Some g
+fault_stays : (f : Option FrameFault) (last : HearingOf) (g : LinkFault) → last.fault ≡ Some g
     → (then_fault f last).fault ≡ Some g
 fault_stays None last g is = is
 fault_stays (Some f) last g is =
@@ -67,7 +67,7 @@ end_stays (Some f) last kind none is =
     ap (λ (b : Bool). unless_over b last (with_fault (link_fault f) last)) over
 
 -- the fault of a length comes last
-length_fault : (f : FrameFault) (last : HearingOf) → is_over last ≡ false
+pub length_fault : (f : FrameFault) (last : HearingOf) → is_over last ≡ false
     → (then_fault (Some f) last).fault ≡ Some (link_fault f)
 length_fault f last going = ap (λ (b : Bool). (unless_over b last (with_fault (link_fault f) last)).fault) going
 
@@ -455,7 +455,7 @@ nothing_wrong : fault_in 65536 [] ≡ None
 unfolding cut
 nothing_wrong = refl
 
-pub nothing_cut : frames_in [] ≡ []
+nothing_cut : frames_in [] ≡ []
 unfolding cut
 nothing_cut = refl
 

@@ -1,6 +1,6 @@
 -- Up to where a client confirmed the log, by all of its frames that were heard ("55.4. Streaming Replication Protocol",
 -- "55.7. Message Formats").
-use Rattle.std.specs.Prelude.{◌≡◌, ◌<◌, ℕ, max, List, [], ◌∷◌, ◌++◌, Option, Some, None, Result, Ok, Err}
+use Rattle.std.specs.Prelude.{◌≡◌, ◌≢◌, ◌<◌, ℕ, max, List, [], ◌∷◌, ◌++◌, Option, Some, None, Result, Ok, Err}
 use Rattle.filter_tree.specs.Memory.{Answers}
 use Rattle.shard_checker.specs.CheckedView.{CheckedOf}
 use Rattle.tables_log.specs.declared.book.Book.{Book}
@@ -27,43 +27,67 @@ abbrev pub confirmed_in : List Frame → ℕ
 confirmed_in [] = 0
 confirmed_in (frame ∷ frames) = max (flushed_by (event_of frame.kind frame.body)) (confirmed_in frames)
 
--- A client is heard up to a frame that ends its stream or has a fault, or up to a status that confirms more than was
--- sent, if one did.
-abbrev pub IsStop : Option ℕ → Result Event LinkFault → Type 0
-IsStop (Some sent) (Ok (event.Status status)) = sent < status.flushed
-IsStop None (Ok (event.Status status)) = ⊥
-IsStop ahead (Ok (event.End kind)) = Unit {0}
-IsStop ahead (Err f) = Unit {0}
+abbrev pub IsStatusBy : Result Event LinkFault → Type 0
+IsStatusBy (Ok (event.Status status)) = Unit {0}
+IsStatusBy (Ok (event.End kind)) = ⊥
+IsStatusBy (Err f) = ⊥
 
--- the first of these frames is such a frame, if there is one
-abbrev pub StopsAt : Option ℕ → List Frame → Type 0
-StopsAt ahead [] = Unit {0}
-StopsAt ahead (frame ∷ frames) = IsStop ahead (event_of frame.kind frame.body)
+-- each of these frames is a status
+abbrev pub AreStatuses : List Frame → Type 0
+AreStatuses [] = Unit {0}
+AreStatuses (frame ∷ frames) = IsStatusBy (event_of frame.kind frame.body) × AreStatuses frames
+
+-- With this fault, or none, a client is heard no further than up to this frame: one that ends the stream, or has the
+-- fault, or a status that confirms more than was sent, if that is the fault.
+abbrev pub IsStop : Option LinkFault → ℕ → Result Event LinkFault → Type 0
+IsStop found sent (Ok (event.Status status)) = (found ≡ Some fault.StatusAhead) × (sent < status.flushed)
+IsStop found sent (Ok (event.End kind)) = found ≡ None
+IsStop found sent (Err f) = found ≡ Some f
+
+-- Hearing stopped at the first of these frames. If there are none, all were heard, and a fault is that of a length.
+abbrev pub StopsAt : Option LinkFault → ℕ → List Frame → Type 0
+StopsAt found sent [] = found ≢ Some fault.StatusAhead
+StopsAt found sent (frame ∷ frames) = IsStop found sent (event_of frame.kind frame.body)
+
+-- ---- all frames so far
+
+-- the frames after the first one are statuses, and this is the greatest position that they confirm
+pub record ConfirmsAll (frames : List Frame) (confirmed : ℕ) : Type 0 where
+  pub first : Frame
+  pub others : List Frame
+  pub frames_are : frames ≡ first ∷ others
+  pub statuses : AreStatuses others
+  pub confirmed_is : confirmed ≡ confirmed_in others
+
+-- before the start nothing is confirmed
+abbrev pub HasConfirmedAll : Option (ℕ × ℕ) → List Frame → ℕ → Type 0
+HasConfirmedAll None frames confirmed = confirmed ≡ 0
+HasConfirmedAll (Some started) frames confirmed = ConfirmsAll frames confirmed
 
 -- ---- a piece
 
--- these frames were not heard: there are none, or hearing stopped at the first
-abbrev pub UnheardAt : List Frame → Option ℕ → Type 0
-UnheardAt rest None = rest ≡ []
-UnheardAt rest (Some kind) = StopsAt None rest
+-- these frames were not heard
+abbrev pub UnheardAt : ℕ → List Frame → Option ℕ → Type 0
+UnheardAt reach rest None = rest ≡ []
+UnheardAt reach rest (Some kind) = StopsAt None reach rest
 
 -- If memory was refused, nothing is said of them.
 abbrev pub AreUnheard : ℕ → List Frame → Result Heard LinkFault → Type 0
-AreUnheard reach rest (Ok heard) = UnheardAt rest heard.ended
+AreUnheard reach rest (Ok heard) = UnheardAt reach rest heard.ended
 AreUnheard reach rest (Err fault.OutOfMemory) = Unit {0}
-AreUnheard reach rest (Err fault.StatusAhead) = StopsAt (Some reach) rest
-AreUnheard reach rest (Err other) = StopsAt None rest
+AreUnheard reach rest (Err other) = StopsAt (Some other) reach rest
 
--- this is the greatest position that was confirmed by the frames that were heard
+-- the frames after the first one that were heard are statuses, and this is the greatest position that they confirm
 pub record HasConfirmed (frames : List Frame) (reach : ℕ) (result : Result Heard LinkFault) (confirmed : ℕ) : Type 0
   where
+    pub first : Frame
     pub front : List Frame
     pub rest : List Frame
-    pub frames_are : frames ≡ front ++ rest
+    pub frames_are : frames ≡ first ∷ front ++ rest
+    pub statuses : AreStatuses front
     pub confirmed_is : confirmed ≡ confirmed_in front
     pub unheard : AreUnheard reach rest result
 
--- before the start nothing is confirmed
 abbrev pub HasConfirmedIf : Option (ℕ × ℕ) → List Frame → ℕ → Result Heard LinkFault → ℕ → Type 0
 HasConfirmedIf None frames reach result confirmed = confirmed ≡ 0
 HasConfirmedIf (Some started) frames reach result confirmed = HasConfirmed frames reach result confirmed
@@ -75,6 +99,6 @@ ConfirmationsAreHeard = (checked : CheckedOf) (known : BooksOf) (bytes piece : L
     → HasHeard checked known bytes old
     → Answers (λ heard. heard) reported_fault (hear_answer old before piece sent) result
     → HearLeaves (ear_phase old) old new before after piece sent result
-    → ear_confirmed old ≡ confirmed_in (frames_in bytes)
+    → HasConfirmedAll (ear_started old) (frames_in bytes) (ear_confirmed old)
     → HasConfirmedIf (ear_started new) (frames_in (bytes ++ piece)) (reach_of old new before sent) result
     (ear_confirmed new)

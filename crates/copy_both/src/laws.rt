@@ -84,11 +84,11 @@ pub fn ears_change_slots()
 /// with which that frame was heard started it: at the requested position, or at the slot's confirmed position if that
 /// is later. So a stream that starts after the confirmed position starts at the requested one (`requested`). A start
 /// remains, and is reported once. A slot is confirmed only on the connection of its stream, and only up to the position
-/// of a status (`confirmed`). The ear knows the greatest position that was confirmed, by all statuses up to a frame that
-/// ended the connection or has a fault (`heard`). A fault is that of a length, of the first frame's start, or of a later frame; and an end
-/// is that of a frame of this kind. A start that is refused has the ErrorResponse of its refusal. The law holds for
-/// books of the checked catalog that are among those that a publisher has had (`BooksOf`): each is that of a beginning
-/// of the log, and its slots were in use as they were at some time.
+/// of a status (`confirmed`). The ear knows the greatest position that statuses confirm, of all frames after the first
+/// one up to one that is no status, or is refused (`heard`). A fault is that of a length, of the first frame's start,
+/// or of a later frame; and an end is that of a frame of this kind. A start that is refused has the ErrorResponse of
+/// its refusal. The law holds for books of the checked catalog that are among those that a publisher has had
+/// (`BooksOf`): each is that of a beginning of the log, and its slots were in use as they were at some time.
 ///
 /// PostgreSQL 15, 55.4. Streaming Replication Protocol, and 55.7. Message Formats.
 pub fn frames_are_heard()

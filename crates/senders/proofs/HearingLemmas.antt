@@ -17,6 +17,7 @@ use Rattle.copy_both.specs.declared.ear.Ear.{Ear}
 use Rattle.copy_both.specs.declared.heard.Heard.{Heard}
 use Rattle.copy_both.specs.declared.link_fault.LinkFault.{LinkFault}
 use Rattle.copy_both.specs.declared.link_fault.LinkFault.TheVariants as fault
+use Rattle.copy_both.specs.ConfirmedFrames.{HasConfirmedAll}
 use Rattle.copy_both.proofs.ConfirmedHeard.{confirmations_are_heard}
 use Rattle.copy_both.proofs.PiecesHeard.{asks_stay, frames_more, late_starts_are_requested, pieces_are_heard, requests_stay}
 use Rattle.copy_both.specs.Hearing.{first_sent}
@@ -26,8 +27,9 @@ use Rattle.publisher_desk.specs.Viewers.{IsUsed, SeesMore, ViewerOf}
 use Rattle.publisher_desk.specs.declared.connection_state.ConnectionState.{ConnectionState}
 use Rattle.publisher_desk.specs.declared.slot_event.Acquisition.{Acquisition}
 use Rattle.senders.specs.Hearing.{HearsPiece, IsExplained, IsSentFrom, StaysStarted, sent_after, sent_by}
-use Rattle.senders.specs.Confirming.{ConfirmsBy, ReportsBy, stop_by}
+use Rattle.senders.specs.Confirming.{ConfirmsBy, ReportsIf}
 use Rattle.senders.specs.Listening.{AcquiresFor, EndsFor, EndsOf, HasListened, HeardPiece, HoldsStream, HearsLast, HearsMore, HearsNext, SaysOfPiece, SaysRequested, next_by, next_by_end, piece_of}
+use Rattle.senders.specs.Refusing.{fault_by}
 use Rattle.senders.specs.Results.{books_seen}
 use Rattle.senders.specs.declared.failed.Failed.{Failed}
 use Rattle.senders.specs.declared.listener.Listened.{Listened}
@@ -235,11 +237,9 @@ module _ (checked : CheckedOf) (was now : ViewerOf) (same : now ≡ was) (before
               requests_stay checked (books_seen was) bytes (piece_of before) before.ear slot start has.heard
               (has.requested slot start started says);
           confirms = λ bytes has.
-              confirms_nothing (ear_started before.ear) checked (books_seen was) (frames_in bytes)
-              (frames_in (bytes ++ piece_of before))
+              confirms_nothing (ear_started before.ear) (frames_in bytes) (frames_in (bytes ++ piece_of before))
               (frames_of (cut 65536 (rest_of (cut 65536 bytes) ++ piece_of before))) (ear_confirmed before.ear)
-              has.heard.started (frames_more checked (books_seen was) bytes (piece_of before) before.ear has.heard)
-              has.confirmed;
+              (frames_more checked (books_seen was) bytes (piece_of before) before.ear has.heard) has.confirmed;
           holding = λ bytes has. has.holding;
           sees = sees_same was;
         }))
@@ -263,7 +263,8 @@ same_listened checked viewer bytes old new same said number has = record {
   heard = subst (HasHeard checked (books_seen viewer) bytes) (sym same) has.heard;
   requested = λ slot start started says.
       has.requested slot start (sym (ap ear_started same) ∙ started) (sym said ∙ says);
-  confirmed = ap ear_confirmed same ∙ has.confirmed;
+  confirmed = subst (λ (ear : Ear). HasConfirmedAll (ear_started ear) (frames_in bytes) (ear_confirmed ear)) (sym same)
+      has.confirmed;
   holding = subst (λ (ear : Ear). HoldsStream (ear_started ear) new.is_requested new.number viewer.held) (sym same)
       (subst (λ (b : Bool). HoldsStream (ear_started old.ear) b new.number viewer.held) (sym said)
       (subst (λ (n : ℕ). HoldsStream (ear_started old.ear) old.is_requested n viewer.held) (sym number) has.holding));
@@ -304,9 +305,8 @@ module _ (checked : CheckedOf) (was now : ViewerOf) (left now_left : Option (Lis
           has = record {
             heard = goes;
             requested = says.each bytes listened;
-            confirmed = confirms_all (ear_started new.ear) checked (books_seen now)
-                (frames_in (bytes ++ piece_of middle)) heard (ear_confirmed new.ear) goes.started none
-                (says_of (Ok heard) is bytes listened);
+            confirmed = confirms_all (ear_started new.ear) (frames_in (bytes ++ piece_of middle)) heard
+                (ear_confirmed new.ear) none (says_of (Ok heard) is bytes listened);
             holding = says.holding bytes listened;
           };
           stays = stays_from old.ear middle.ear new.ear pulls.ear one.stays;
@@ -325,7 +325,7 @@ module _ (checked : CheckedOf) (was now : ViewerOf) (left now_left : Option (Lis
           ends = subst (GoesOnOrEnds checked (books_seen now) (bytes ++ piece_of middle) new.ear) some one.explained;
           stays = stays_from old.ear middle.ear new.ear pulls.ear one.stays;
           requested = says.each bytes listened;
-          reports = reports_frame (ear_started new.ear) (frames_in (bytes ++ piece_of middle)) heard kind
+          reports = reports_frame (ear_started new.ear) (frames_in (bytes ++ piece_of middle)) heard
               (ear_confirmed new.ear) (says_of (Ok heard) is bytes listened);
           holding = says.holding bytes listened;
         };
@@ -366,14 +366,13 @@ says_still : (checked : CheckedOf) (viewer : ViewerOf) (bytes : List ℕ) (new :
 says_still checked viewer bytes new has =
     subst (λ (all : List ℕ). SaysRequested all new) (sym (append-nil bytes)) has.requested
 
-reports_still : (checked : CheckedOf) (viewer : ViewerOf) (bytes : List ℕ) (new : Listener) (why : ListenerEnd)
+reports_still : (checked : CheckedOf) (viewer : ViewerOf) (bytes : List ℕ) (new : Listener)
     → HasListened checked viewer bytes new
-    → ReportsBy (ear_started new.ear) (frames_in (bytes ++ [])) why (ear_confirmed new.ear)
-reports_still checked viewer bytes new why has =
-    subst (λ (all : List ℕ). ReportsBy (ear_started new.ear) (frames_in all) why (ear_confirmed new.ear))
+    → ReportsIf (ear_started new.ear) (frames_in (bytes ++ [])) None (ear_confirmed new.ear)
+reports_still checked viewer bytes new has =
+    subst (λ (all : List ℕ). ReportsIf (ear_started new.ear) (frames_in all) None (ear_confirmed new.ear))
     (sym (append-nil bytes))
-    (reports_all (ear_started new.ear) checked (books_seen viewer) (frames_in bytes) (stop_by why)
-    (why ≡ listener_end.Fault fault.OutOfMemory) (ear_confirmed new.ear) has.heard.started has.confirmed)
+    (reports_all (ear_started new.ear) (frames_in bytes) (ear_confirmed new.ear) has.confirmed)
 
 stays_same : (old new : Ear) → new ≡ old → StaysStarted old new
 stays_same old new same started is = ap ear_started same ∙ is
@@ -381,10 +380,11 @@ stays_same old new same started is = ap ear_started same ∙ is
 module _ (checked : CheckedOf) (viewer : ViewerOf) (left now_left : Option (List ℕ)) (failed ended : Bool)
     (old new : Listener) where
   nothing_read : (says : Bool) (why : ListenerEnd) → PullsNothing left now_left says old new
+      → fault_by why ≡ None
       → ((bytes : List ℕ) → EndsFor checked (books_seen viewer) bytes (ear_started new.ear) (ear_refusal new.ear) failed
       ended why)
       → HearsLast checked viewer viewer left now_left failed ended old new why
-  nothing_read says why pulls ends = record {
+  nothing_read says why pulls sound ends = record {
     more = [];
     read = pulls.read;
     sees = sees_same viewer;
@@ -395,18 +395,19 @@ module _ (checked : CheckedOf) (viewer : ViewerOf) (left now_left : Option (List
           ends = ends (bytes ++ []);
           stays = stays_same old.ear new.ear pulls.ear;
           requested = says_still checked viewer bytes new listened;
-          reports = reports_still checked viewer bytes new why listened;
+          reports = subst (λ (o : Option LinkFault). ReportsIf (ear_started new.ear) (frames_in (bytes ++ [])) o
+              (ear_confirmed new.ear)) (sym sound) (reports_still checked viewer bytes new listened);
           holding = listened.holding;
         };
   }
 
   pub read_fails : PullsNothing left now_left failed old new
       → HearsLast checked viewer viewer left now_left failed ended old new listener_end.SourceFailed
-  read_fails pulls = nothing_read failed listener_end.SourceFailed pulls (λ bytes. pulls.said)
+  read_fails pulls = nothing_read failed listener_end.SourceFailed pulls refl (λ bytes. pulls.said)
 
   pub read_ends : PullsNothing left now_left ended old new
       → HearsLast checked viewer viewer left now_left failed ended old new listener_end.SourceEnded
-  read_ends pulls = nothing_read ended listener_end.SourceEnded pulls (λ bytes. pulls.said)
+  read_ends pulls = nothing_read ended listener_end.SourceEnded pulls refl (λ bytes. pulls.said)
 
 -- ---- reads, one after another
 

@@ -1,6 +1,6 @@
 -- What came of a connection on which no stream was started.
 use Rattle.std.proofs.Common.{◌≡◌, ℕ, List, [], map, refl, sym, ◌∙◌, ap, subst}
-use Rattle.std.specs.Prelude.{Bool, false, Option, None}
+use Rattle.std.specs.Prelude.{Bool, false, Option, Some, None}
 use Rattle.std.specs.Arc.{arc_value}
 use Rattle.std.specs.Io.KnownBytes.{Appends}
 use Rattle.std.proofs.KnownBytes.{Appends-nil, Consumes-nil}
@@ -12,9 +12,10 @@ use Rattle.copy_both.specs.declared.link_fault.LinkFault.TheVariants as fault
 use Rattle.senders.specs.declared.end.End.{End}
 use Rattle.senders.specs.declared.end.End.TheVariants as end
 use Rattle.senders.specs.declared.outcome.Outcome.{Outcome}
-use Rattle.senders.specs.Confirming.{ReportsAt, ReportsBy}
+use Rattle.senders.specs.Confirming.{ReportsIf}
 use Rattle.senders.specs.Listening.{EndsAt, EndsFor, HasListened}
-use Rattle.senders.specs.Refusing.{AnswersAs, cause_by}
+use Rattle.senders.specs.Hearing.{HoldsFault}
+use Rattle.senders.specs.Refusing.{AnswersAs, cause_by, fault_by}
 use Rattle.senders.specs.Results.{books_seen, commits_of, served_of}
 use Rattle.senders.specs.Serving.{IsUnstartedAnswer, IsEndCause, IsServed, IsServedFor, IsWritten, started_of}
 use Rattle.senders.specs.declared.listener_end.ListenerEnd.{ListenerEnd}
@@ -22,6 +23,7 @@ use Rattle.senders.specs.declared.listener_end.ListenerEnd.TheVariants as listen
 use Rattle.senders.specs.declared.listener.Listener.{Listener}
 use Rattle.publisher_desk.specs.Viewers.{SeesMore, ViewerOf, new_viewer}
 use Rattle.senders.proofs.SeenLogs.{books_more, ends_still}
+use Rattle.senders.proofs.ConfirmingLemmas.{fault_end}
 use Rattle.senders.proofs.ServingLemmas.{heard_cause}
 
 -- what was written for this end
@@ -63,6 +65,8 @@ module _ (checked : CheckedOf) (known : BooksOf) (bytes : List ℕ) (source_fail
 module _ (checked : CheckedOf) (bytes : List ℕ) (source_failed source_ended : Bool) (before after : Option (List ℕ))
     (failed : Bool) (outcome : Outcome) (is_requested : Bool) (confirmed number : ℕ) (viewer : ViewerOf)
     (unconfirmed : confirmed ≡ 0)
+    (faults : (found : LinkFault) → outcome.fault ≡ Some found
+    → HoldsFault checked (books_seen viewer) bytes None found)
     (no_slot : outcome.slot ≡ None) (no_start : outcome.start ≡ None) (none : outcome.taken.items ≡ []) where
   abbrev known : BooksOf
   known = books_seen viewer
@@ -82,8 +86,10 @@ module _ (checked : CheckedOf) (bytes : List ℕ) (source_failed source_ended : 
     cause = subst (λ (o : Option ℕ). IsEndCause checked known bytes (started_of o outcome.start) source_failed
         source_ended failed outcome.end) (sym no_slot) cause;
     requested = λ slot start some begins says. cc;
-    reports = subst (λ (o : Option ℕ). ReportsAt (started_of o outcome.start) (frames_in bytes) outcome.end confirmed)
+    reports = subst (λ (o : Option ℕ). ReportsIf (started_of o outcome.start) (frames_in bytes) outcome.fault confirmed)
         (sym no_slot) unconfirmed;
+    fault = λ found is. subst (λ (o : Option ℕ). HoldsFault checked known bytes (started_of o outcome.start) found)
+        (sym no_slot) (faults found is);
     left = λ slot some sound client. cc;
   }
 
@@ -95,10 +101,11 @@ pub served_refused : (checked : CheckedOf) (was now last : ViewerOf) (left now_l
     → HasListened checked was [] old → EndsAt checked was now left now_left source_failed source_ended old new None why
     → AnswersAs why before after failed (ear_refusal new.ear)
     → outcome.slot ≡ None → outcome.start ≡ None → outcome.taken.items ≡ [] → outcome.end ≡ cause_by why
+    → outcome.fault ≡ fault_by why
     → IsServed checked left now_left source_failed source_ended before after failed
     (served_of outcome is_requested confirmed number last)
 served_refused checked was now last left now_left source_failed source_ended before after failed old new outcome
-    is_requested confirmed number why noted sees fresh at answers no_slot no_start none same =
+    is_requested confirmed number why noted sees fresh at answers no_slot no_start none same fault_is =
     let bytes : List ℕ = at.hears.more in
     let known = books_seen last in
     let all = at.hears.ends [] fresh in
@@ -112,8 +119,10 @@ served_refused checked was now last left now_left source_failed source_ended bef
       read = at.hears.read;
       served_for = unstarted checked bytes source_failed source_ended before after failed outcome is_requested
           confirmed number last
-          (noted ∙ subst (λ (o : Option (ℕ × ℕ)). ReportsBy o (frames_in bytes) why (ear_confirmed new.ear))
+          (noted ∙ subst (λ (o : Option (ℕ × ℕ)). ReportsIf o (frames_in bytes) (fault_by why) (ear_confirmed new.ear))
           at.started_is all.reports)
+          (λ found is. (subst (EndsFor checked known bytes None (ear_refusal new.ear) source_failed source_ended)
+          (fault_end why found (sym fault_is ∙ is)) ends).holds)
           no_slot no_start none
           (subst (Answered checked known bytes before after failed) (sym same)
           (answered checked known bytes source_failed source_ended before after failed (ear_refusal new.ear) why ends
@@ -126,12 +135,13 @@ served_refused checked was now last left now_left source_failed source_ended bef
 pub served_nothing : (checked : CheckedOf) (left : Option (List ℕ)) (source_failed source_ended : Bool)
     (before : Option (List ℕ)) (failed : Bool) (outcome : Outcome)
     → outcome.slot ≡ None → outcome.start ≡ None → outcome.taken.items ≡ [] → outcome.end ≡ end.Link fault.OutOfMemory
+    → outcome.fault ≡ None
     → IsServed checked left left source_failed source_ended before before failed (served_of outcome false 0 0 new_viewer)
-served_nothing checked left source_failed source_ended before failed outcome no_slot no_start none same = record {
+served_nothing checked left source_failed source_ended before failed outcome no_slot no_start none same sound = record {
   bytes = [];
   read = Consumes-nil left;
   served_for = unstarted checked [] source_failed source_ended before before failed outcome false 0 0 new_viewer
-      refl no_slot no_start none
+      refl (λ found is. absurd (let no : None ≡ Some found = sym sound ∙ is in cc)) no_slot no_start none
       (subst (Answered checked (books_seen new_viewer) [] before before failed) (sym same)
       (record { written = []; put = Appends-nil before; answer = refl }))
       (subst (IsEndCause checked (books_seen new_viewer) [] None source_failed source_ended failed) (sym same) (record {

@@ -170,7 +170,7 @@ module _ (checked : CheckedOf) (was now last : ViewerOf) (sees : SeesMore now la
 
   ending : ServesOut checked was now left now_left source_failed source_ended before after sink_failed old new sender
       outcome → Ending
-  ending (Unstarted why at answers no_slot no_start none same) =
+  ending (Unstarted why at answers no_slot no_start none same fault_is) =
       let ends = at.hears.ends [] fresh in
       inl (record {
         no_slot = no_slot;
@@ -181,7 +181,8 @@ module _ (checked : CheckedOf) (was now last : ViewerOf) (sees : SeesMore now la
         unnumbered = (subst (λ (o : Option (ℕ × ℕ)). HoldsStream o new.is_requested new.number now.held)
             at.started_is ends.holding).1;
         served = served_refused checked was now last left now_left source_failed source_ended before after sink_failed
-            old new outcome is_requested confirmed number why noted sees fresh at answers no_slot no_start none same;
+            old new outcome is_requested confirmed number why noted sees fresh at answers no_slot no_start none same
+            fault_is;
       })
   ending (EndedAtOnce started why at streams logged) =
       inr (at_once checked was now last sees left now_left source_failed source_ended before after sink_failed old new

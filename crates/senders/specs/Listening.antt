@@ -7,7 +7,7 @@ use Rattle.tables_log.specs.BookView.{book_log, book_slots}
 use Rattle.tables_log.specs.Lsn.{end_lsn_of}
 use Rattle.tables_log.specs.Slots.{confirmed_at}
 use Rattle.tables_log.specs.declared.book.Book.{Book}
-use Rattle.copy_both.specs.ConfirmedFrames.{confirmed_in}
+use Rattle.copy_both.specs.ConfirmedFrames.{HasConfirmedAll}
 use Rattle.copy_both.specs.Ears.{HearLeaves, ear_confirmed, ear_phase, ear_refusal, ear_started, hear_answer}
 use Rattle.copy_both.specs.HeardFrames.{frames_in, AsksIfStarted, BooksOf, HasEnd, HasHeard, Requests}
 use Rattle.copy_both.specs.Voices.{reported_fault}
@@ -19,7 +19,8 @@ use Rattle.publisher_desk.specs.Viewers.{SeesMore, ViewerOf}
 use Rattle.publisher_desk.specs.declared.connection_state.ConnectionState.{ConnectionState}
 use Rattle.publisher_desk.specs.declared.slot_event.Acquisition.{Acquisition}
 use Rattle.publisher_desk.specs.declared.slot_sight.Hold.{Hold}
-use Rattle.senders.specs.Confirming.{ConfirmsBy, ReportsBy}
+use Rattle.senders.specs.Confirming.{ConfirmsBy, ReportsIf}
+use Rattle.senders.specs.Refusing.{fault_by}
 use Rattle.senders.specs.Results.{acquisition, books_seen}
 use Rattle.senders.specs.Hearing.{Faults, IsSentFrom, StaysStarted, sent_by}
 use Rattle.senders.specs.declared.beginning.Beginning.{Beginning}
@@ -52,7 +53,7 @@ IsHolding viewer listener =
 pub record HasListened (checked : CheckedOf) (viewer : ViewerOf) (bytes : List ℕ) (listener : Listener) : Type 0 where
   pub heard : HasHeard checked (books_seen viewer) bytes listener.ear
   pub requested : SaysRequested bytes listener
-  pub confirmed : ear_confirmed listener.ear ≡ confirmed_in (frames_in bytes)
+  pub confirmed : HasConfirmedAll (ear_started listener.ear) (frames_in bytes) (ear_confirmed listener.ear)
   pub holding : IsHolding viewer listener
 
 -- Of a stream that starts now it says that its start was requested only if that is after what was confirmed for the
@@ -147,7 +148,7 @@ pub record EndsOf (checked : CheckedOf) (viewer : ViewerOf) (bytes : List ℕ) (
   pub ends : EndsFor checked (books_seen viewer) bytes (ear_started new.ear) (ear_refusal new.ear) failed ended why
   pub stays : StaysStarted old.ear new.ear
   pub requested : SaysRequested bytes new
-  pub reports : ReportsBy (ear_started new.ear) (frames_in bytes) why (ear_confirmed new.ear)
+  pub reports : ReportsIf (ear_started new.ear) (frames_in bytes) (fault_by why) (ear_confirmed new.ear)
   pub holding : IsHolding viewer new
 
 -- More bytes were read and heard, and the listener ended.

@@ -1,7 +1,8 @@
 -- What is written where no stream was started, and why a connection ended: PostgreSQL 15, 55.4. Streaming Replication
 -- Protocol.
-use Rattle.std.specs.Prelude.{◌≡◌, ℕ, Bool, false, List, [], ◌++◌, Option}
+use Rattle.std.specs.Prelude.{◌≡◌, ℕ, Bool, false, List, [], ◌++◌, Option, Some, None}
 use Rattle.std.specs.Io.KnownBytes.{Appends}
+use Rattle.copy_both.specs.declared.link_fault.LinkFault.{LinkFault}
 use Rattle.copy_both.specs.declared.link_fault.LinkFault.TheVariants as fault
 use Rattle.senders.specs.declared.end.End.{End}
 use Rattle.senders.specs.declared.end.End.TheVariants as end
@@ -27,3 +28,14 @@ cause_by listener_end.SourceFailed = end.ReadFault
 cause_by listener_end.SourceEnded = end.Client
 cause_by (listener_end.Frame kind) = end.Client
 cause_by (listener_end.Fault fault) = end.Link fault
+
+-- the fault of what the client sent, if that ended the listener
+abbrev pub fault_by : ListenerEnd → Option LinkFault
+fault_by (listener_end.Fault fault) = Some fault
+fault_by listener_end.SourceFailed = None
+fault_by listener_end.SourceEnded = None
+fault_by (listener_end.Frame kind) = None
+
+abbrev pub fault_in : Option ListenerEnd → Option LinkFault
+fault_in None = None
+fault_in (Some why) = fault_by why

@@ -7,6 +7,7 @@ use Rattle.tables_log.specs.Commits.{CommitOf}
 use Rattle.tables_log.specs.Lsn.{commits_before}
 use Rattle.copy_both.specs.HeardFrames.{BooksOf}
 use Rattle.copy_both.specs.VoiceLaws.{AreAt}
+use Rattle.copy_both.specs.declared.link_fault.LinkFault.{LinkFault}
 use Rattle.publisher_desk.specs.Receipts.{transactions_of}
 use Rattle.publisher_desk.specs.Sights.{times}
 use Rattle.publisher_desk.specs.SlotEvents.{use_after, uses_in}
@@ -17,14 +18,15 @@ use Rattle.publisher_desk.specs.declared.slot_event.SlotEvent.{SlotEvent}
 use Rattle.senders.specs.declared.end.End.{End}
 use Rattle.senders.specs.declared.outcome.Outcome.{Outcome}
 
--- `confirmed` is the greatest position that a status of its client confirmed, or 0. `number` is that of the acquisition of its
--- slot, from 1; 0 if it started no stream.
+-- `fault` is that of what its client sent, if it has one. `confirmed` is reported as the greatest position that a status
+-- of its client confirmed, or 0. `number` is that of the acquisition of its slot, from 1; 0 if it started no stream.
 pub record ServedOf : Type 0 where
   pub slot : Option ℕ
   pub start : Option ℕ
   pub is_requested : Bool
   pub taken : List CommitOf
   pub end : End
+  pub fault : Option LinkFault
   pub confirmed : ℕ
   pub number : ℕ
   pub viewer : ViewerOf
@@ -40,6 +42,7 @@ served_of outcome is_requested confirmed number viewer = record {
   is_requested = is_requested;
   taken = commits_of outcome;
   end = outcome.end;
+  fault = outcome.fault;
   confirmed = confirmed;
   number = number;
   viewer = viewer;

@@ -9,6 +9,7 @@ use Rattle.copy_both.specs.Streams.{Move, stream}
 use Rattle.tables_log.specs.Lsn.{commits_before}
 use Rattle.copy_both.specs.Tellings.{telling_of}
 use Rattle.copy_both.specs.VoiceLaws.{AreAt, Follow, takes_in}
+use Rattle.copy_both.specs.declared.link_fault.LinkFault.{LinkFault}
 use Rattle.copy_both.specs.declared.link_fault.LinkFault.TheVariants as fault
 use Rattle.senders.specs.declared.end.End.{End}
 use Rattle.senders.specs.declared.end.End.TheVariants as end
@@ -18,7 +19,7 @@ use Rattle.publisher_desk.specs.Viewers.{HasReleased, SeesMore, ViewerOf, new_vi
 use Rattle.stream_laws.specs.LayoutRoom.{IsClocked}
 use Rattle.senders.specs.Causes.{chosen}
 use Rattle.senders.specs.Listening.{EndsAt, HearsAll, StartsOn}
-use Rattle.senders.specs.Refusing.{AnswersAs, cause_by}
+use Rattle.senders.specs.Refusing.{AnswersAs, cause_by, fault_by, fault_in}
 use Rattle.senders.specs.Results.{commits_of}
 use Rattle.senders.specs.Sending.{TakesLogged}
 use Rattle.senders.specs.Serving.{IsTail}
@@ -30,11 +31,12 @@ use Rattle.senders.specs.declared.running.Sent.{Sent}
 use Rattle.senders.specs.declared.sender_end.SenderEnd.{SenderEnd}
 
 -- No commit was taken up.
-pub record IsWithout (slot start : ℕ) (is : End) (outcome : Outcome) : Type 0 where
+pub record IsWithout (slot start : ℕ) (found : Option LinkFault) (is : End) (outcome : Outcome) : Type 0 where
   pub slot_is : outcome.slot ≡ Some slot
   pub start_is : outcome.start ≡ Some start
   pub none : outcome.taken.items ≡ []
   pub end_is : outcome.end ≡ is
+  pub fault_is : outcome.fault ≡ found
 
 -- The last frame was said, and the first cause is reported.
 pub record Concludes (slot start : ℕ) (sent : Sent) (why : Option ListenerEnd) (before after : Option (List ℕ))
@@ -44,6 +46,7 @@ pub record Concludes (slot start : ℕ) (sent : Sent) (why : Option ListenerEnd)
   pub taken_is : outcome.taken ≡ sent.taken
   pub stop : SenderEnd
   pub end_is : outcome.end ≡ chosen stop sent.is_first why
+  pub fault_is : outcome.fault ≡ fault_in why
   pub says : SaysLast sent.stop stop why before after was_failed failed
 
 -- the sink failed, memory was refused, all was taken up, or the listener ended so
@@ -74,7 +77,7 @@ pub record Streams (checked : CheckedOf) (slot start : ℕ) (before after : Opti
   pub answered : failed ≡ false → outcome.end ≡ end.Client → why ≡ Some (listener_end.Frame 99)
       → IsTail copy_done written
   pub ends : IsEndOf why failed outcome.end
-  pub refused : why ≡ Some (listener_end.Fault fault.OutOfMemory) → outcome.end ≡ end.Link fault.OutOfMemory
+  pub fault_is : outcome.fault ≡ fault_in why
 
 -- It was heard meanwhile.
 pub record RunsOn (checked : CheckedOf) (was now : ViewerOf) (slot start : ℕ) (left now_left : Option (List ℕ))
@@ -93,7 +96,7 @@ pub data ServesOut (checked : CheckedOf) (was now : ViewerOf) (left now_left : O
     (sender : ViewerOf) (outcome : Outcome) : Type 0 where
   Unstarted : (why : ListenerEnd) → EndsAt checked was now left now_left source_failed source_ended old new None why
       → AnswersAs why before after sink_failed (ear_refusal new.ear) → outcome.slot ≡ None → outcome.start ≡ None
-      → outcome.taken.items ≡ [] → outcome.end ≡ cause_by why
+      → outcome.taken.items ≡ [] → outcome.end ≡ cause_by why → outcome.fault ≡ fault_by why
       → ServesOut checked was now left now_left source_failed source_ended before after sink_failed old new sender
       outcome
   EndedAtOnce : (started : ℕ × ℕ) (why : ListenerEnd)

@@ -12,11 +12,12 @@ use Rattle.copy_both.specs.Streams.{Move, stream}
 use Rattle.tables_log.specs.Lsn.{commits_before}
 use Rattle.copy_both.specs.Tellings.{telling_of}
 use Rattle.copy_both.specs.VoiceLaws.{AreAt, Follow, takes_in}
+use Rattle.copy_both.specs.declared.link_fault.LinkFault.{LinkFault}
 use Rattle.copy_both.specs.declared.link_fault.LinkFault.TheVariants as fault
 use Rattle.copy_both.specs.declared.sql_state.SqlState.{SqlState}
 use Rattle.senders.specs.declared.end.End.{End}
 use Rattle.senders.specs.declared.end.End.TheVariants as end
-use Rattle.senders.specs.Confirming.{ReportsAt}
+use Rattle.senders.specs.Confirming.{ReportsIf}
 use Rattle.senders.specs.Results.{ServedOf, books_seen}
 use Rattle.stream_laws.specs.LayoutRoom.{IsClocked}
 use Rattle.senders.specs.Hearing.{HoldsFault}
@@ -115,7 +116,8 @@ pub data HasClientLeft (source_ended : Bool) (frames : List Frame) (written : Li
 
 -- What came of a connection from which these bytes were read. Starts and refusals are those of a book that the
 -- publisher has had. If it says that its client requested the position where the stream starts, the first frame does.
--- It says up to where its client confirmed the log, by its statuses.
+-- It says up to where its client confirmed the log by its statuses. If it says that what the client sent has a fault,
+-- the bytes have it.
 pub record IsServedFor (checked : CheckedOf) (bytes : List ℕ) (source_failed source_ended : Bool)
     (before after : Option (List ℕ)) (sink_failed : Bool) (served : ServedOf) : Type 0 where
   pub written : List ℕ
@@ -126,7 +128,9 @@ pub record IsServedFor (checked : CheckedOf) (bytes : List ℕ) (source_failed s
       source_ended sink_failed served.end
   pub requested : (slot start : ℕ) → served.slot ≡ Some slot → served.start ≡ Some start
       → served.is_requested ≡ true → Requests (frames_in bytes) slot start
-  pub reports : ReportsAt (started_of served.slot served.start) (frames_in bytes) served.end served.confirmed
+  pub reports : ReportsIf (started_of served.slot served.start) (frames_in bytes) served.fault served.confirmed
+  pub fault : (found : LinkFault) → served.fault ≡ Some found
+      → HoldsFault checked (books_seen served.viewer) bytes (started_of served.slot served.start) found
   pub left : (slot : ℕ) → served.slot ≡ Some slot → sink_failed ≡ false → served.end ≡ end.Client
       → HasClientLeft source_ended (frames_in bytes) written
 

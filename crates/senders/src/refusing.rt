@@ -2,7 +2,7 @@
 
 ghost use Rattle.std.specs.Prelude.{◌≡◌, [], None};
 ghost use Rattle.copy_both.specs.Ears.{ear_refusal};
-ghost use Rattle.senders.specs.Refusing.{AnswersAs, WritesFirst, cause_by};
+ghost use Rattle.senders.specs.Refusing.{AnswersAs, WritesFirst, cause_by, fault_by};
 
 use crate::end::End;
 use crate::listener::Listener;
@@ -31,6 +31,16 @@ pub(crate) fn cause_of(why: ListenerEnd) -> End
         ListenerEnd::SourceFailed => End::ReadFault,
         ListenerEnd::SourceEnded | ListenerEnd::Frame(_) => End::Client,
         ListenerEnd::Fault(fault) => End::Link(fault),
+    }
+}
+
+/// The fault of what the client sent, if that ended its listener.
+pub(crate) fn fault_of(why: ListenerEnd) -> Option<LinkFault>
+    ensures { result ≡ fault_by why }
+{
+    match why {
+        ListenerEnd::Fault(fault) => Some(fault),
+        ListenerEnd::SourceFailed | ListenerEnd::SourceEnded | ListenerEnd::Frame(_) => None,
     }
 }
 

@@ -5,6 +5,7 @@ ghost use Rattle.std.specs.Arc.{arc_value};
 
 use crate::end::End;
 use crate::outcome::Outcome;
+use copy_both::LinkFault;
 use publisher_desk::{Closing, Publishing, Viewer};
 use std::alloc::Global;
 use std::marker::Model;
@@ -95,6 +96,13 @@ impl<P: Publishing> Served<P> {
         ensures { result ≡ self.now.end }
     {
         self.outcome.end
+    }
+
+    /// The fault of what its client sent, if that ended it, or would have if its sender had not ended it before.
+    pub fn fault(&self) -> Option<LinkFault>
+        ensures { result ≡ self.now.fault }
+    {
+        self.outcome.fault
     }
 
     /// The greatest position that its client's statuses confirmed, in bytes of the log; 0 if none did.

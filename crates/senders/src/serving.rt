@@ -5,6 +5,7 @@ ghost use Rattle.std.specs.Arc.{arc_value};
 ghost use Rattle.senders.specs.Causes as spec;
 ghost use Rattle.senders.specs.Causes.{chosen, end_by, unopened_by};
 ghost use Rattle.publisher_desk.specs.Viewers.{Holds, new_viewer};
+ghost use Rattle.senders.specs.Refusing as refusing;
 ghost use Rattle.senders.specs.Results.{IsWitnessed, commits_of};
 ghost use Rattle.senders.specs.Running.{Concludes, IsWithout, ReleasesIf, RunsOn, ServesOut, Streams};
 ghost use Rattle.senders.specs.Sending.{TakesLogged};
@@ -18,7 +19,7 @@ use crate::listener::Listener;
 use crate::listener_end::ListenerEnd;
 use crate::listening::begin;
 use crate::outcome::Outcome;
-use crate::refusing::{answer, cause_of};
+use crate::refusing::{answer, cause_of, fault_of};
 use crate::running::{Sent, run_both, send, starts_threads};
 use crate::sender_end::SenderEnd;
 use crate::served::Served;
@@ -87,30 +88,45 @@ fn reported_cause(stop: SenderEnd, is_first: bool, why: Option<ListenerEnd>) -> 
 }
 
 /// What came of a connection on which no stream was started.
-fn unstarted(alloc: Global, end: End) -> Outcome
+fn unstarted(alloc: Global, end: End, fault: Option<LinkFault>) -> Outcome
     ensures slot { result.slot ≡ None }
     ensures start { result.start ≡ None }
     ensures taken { result.taken.items ≡ [] }
     ensures end { result.end ≡ end }
+    ensures fault { result.fault ≡ fault }
 {
     Outcome {
         slot: None,
         start: None,
         taken: Vec::new(alloc),
         end,
+        fault,
     }
 }
 
 /// What came of a connection for which no commit was taken.
-fn without_commits(alloc: Global, started: StreamStart, end: End) -> Outcome
-    ensures { IsWithout started.0 started.1 end result }
+fn without_commits(
+    alloc: Global,
+    started: StreamStart,
+    end: End,
+    fault: Option<LinkFault>,
+) -> Outcome
+    ensures { IsWithout started.0 started.1 fault end result }
 {
     Outcome {
         slot: Some(started.slot),
         start: Some(started.start.to_u64()),
         taken: Vec::new(alloc),
         end,
+        fault,
     }
+}
+
+/// The fault of what the client sent, if that ended its listener.
+fn fault_in(why: Option<ListenerEnd>) -> Option<LinkFault>
+    ensures { result ≡ refusing.fault_in why }
+{
+    fault_of(why?)
 }
 
 /// Why a connection ended whose client ended it in the piece that started it, if CopyBothResponse could not be
@@ -144,6 +160,7 @@ fn conclude<W: Sink>(
         start: Some(started.start.to_u64()),
         taken: sent.taken,
         end,
+        fault: fault_in(why),
     }
 }
 
@@ -164,7 +181,7 @@ fn serve_ended<P: Publishing, W: Sink, G: Gate, R: Wait + Clock>(
         Ok(voice) => voice,
         Err(stop) => {
             let end = unopened_end(stop, why);
-            let outcome = without_commits(publisher.allocator(), started, end);
+            let outcome = without_commits(publisher.allocator(), started, end, fault_of(why));
             return (outcome, Viewer::new());
         }
     };
@@ -199,13 +216,13 @@ fn serve_started<
     let mut voice = match open(publisher, started, writer) {
         Ok(voice) => voice,
         Err(stop) => {
-            let outcome = without_commits(publisher.allocator(), started, end_of(stop));
+            let outcome = without_commits(publisher.allocator(), started, end_of(stop), None);
             return (outcome, Viewer::new());
         }
     };
     if !starts_threads(rt) {
         let end = end_of(SenderEnd::OutOfMemory);
-        let outcome = without_commits(publisher.allocator(), started, end);
+        let outcome = without_commits(publisher.allocator(), started, end, None);
         return (outcome, Viewer::new());
     }
     let (sent, sender, why) = run_both(
@@ -239,7 +256,7 @@ fn outcome_of<
     match begin(rt, publisher, viewer, listener, reader) {
         Beginning::Refused(why) => {
             answer(listener, why, writer);
-            let outcome = unstarted(publisher.allocator(), cause_of(why));
+            let outcome = unstarted(publisher.allocator(), cause_of(why), fault_of(why));
             (outcome, Viewer::new())
         }
         Beginning::Ended(started, why) => serve_ended(rt, publisher, started, why, writer, gate),
@@ -286,7 +303,7 @@ pub fn serve<
 {
     let alloc = publisher.allocator();
     let Ok(mut listener) = Listener::new(alloc, publisher.checked()) else {
-        let outcome = unstarted(alloc, End::Link(LinkFault::OutOfMemory));
+        let outcome = unstarted(alloc, End::Link(LinkFault::OutOfMemory), None);
         return Served::new(outcome, false, 0, 0, Viewer::new());
     };
     let mut viewer = Viewer::new();

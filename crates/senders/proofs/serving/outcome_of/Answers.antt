@@ -6,7 +6,7 @@ pub returns-in-Refused : goal.returns-in-Refused
 returns-in-Refused g c =
     Unstarted c.in-Refused.why c.in-Refused.ensures c.answer.ensures c.unstarted-outcome.ensures.slot
     c.unstarted-outcome.ensures.start c.unstarted-outcome.ensures.taken
-    (c.unstarted-outcome.ensures.end ∙ c.cause_of.ensures)
+    (c.unstarted-outcome.ensures.end ∙ c.cause_of.ensures) (c.unstarted-outcome.ensures.fault ∙ c.fault_of.ensures)
 
 pub returns-in-Ended : goal.returns-in-Ended
 returns-in-Ended g c =

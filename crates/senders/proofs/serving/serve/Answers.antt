@@ -22,7 +22,7 @@ returns-in_default-clause-served g c =
     (g.S.Source.has_failed c.args.reader.now) (g.S.Source.has_ended c.args.reader.now)
     (g.W.Sink.taken c.args.writer.now) (g.W.Sink.has_failed c.args.writer.now) c.unstarted-outcome.result
     c.unstarted-outcome.ensures.slot c.unstarted-outcome.ensures.start c.unstarted-outcome.ensures.taken
-    c.unstarted-outcome.ensures.end)
+    c.unstarted-outcome.ensures.end c.unstarted-outcome.ensures.fault)
 
 -- the slot of the stream is the connection's own
 pub release_if-requires : goal.release_if-requires

@@ -1,8 +1,10 @@
 use Rattle.std.proofs.Common.{ap, refl, subst, sym}
-use Rattle.std.specs.Prelude.{Some, map}
+use Rattle.std.specs.Prelude.{Option, Some, map}
 use Rattle.std.specs.Arc.{arc_value}
 use Rattle.copy_frames.specs.Contents.{copy_both_response}
+use Rattle.copy_both.specs.declared.link_fault.LinkFault.{LinkFault}
 use Rattle.publisher_desk.specs.Viewers.{ViewerOf, new_viewer}
+use Rattle.senders.specs.Causes.{unopened_by}
 use Rattle.senders.specs.Results.{commits_of}
 use Rattle.senders.specs.Sending.{TakesLogged, started_telling}
 use Rattle.senders.specs.declared.end.End.{End}
@@ -17,8 +19,10 @@ returns-in-Err-clause-streams g c =
     streams_ended g.P.Publishing.checked c.args.started.0 c.args.started.1 (g.W.Sink.taken c.args.writer.now)
     (g.W.Sink.taken c.open.new.writer) (g.W.Sink.has_failed c.open.new.writer) (Some c.args.why)
     c.without_commits-outcome.result c.in-Err.stop c.args.why refl c.in-Err.ensures.err
-    (subst (λ (is : End). IsWithout c.args.started.0 c.args.started.1 is c.without_commits-outcome.result)
-    c.unopened_end-end.ensures c.without_commits-outcome.ensures)
+    (subst (λ (found : Option LinkFault). IsWithout c.args.started.0 c.args.started.1 found
+    (unopened_by c.in-Err.stop c.args.why) c.without_commits-outcome.result) c.fault_of.ensures
+    (subst (λ (is : End). IsWithout c.args.started.0 c.args.started.1 c.fault_of.result is
+    c.without_commits-outcome.result) c.unopened_end-end.ensures c.without_commits-outcome.ensures))
 
 pub conclude-outcome-requires : goal.conclude-outcome-requires
 conclude-outcome-requires g c =
