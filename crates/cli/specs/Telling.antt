@@ -43,6 +43,7 @@ name_of e.TakenDiffers = Some (codes "TakenDiffers")
 name_of e.ConnectionMissing = Some (codes "ConnectionMissing")
 name_of e.StartLate = Some (codes "StartLate")
 name_of e.StartEarly = Some (codes "StartEarly")
+name_of e.SlotDiffers = Some (codes "SlotDiffers")
 name_of e.OutOfMemory = None
 
 -- What is served: a checked catalog, with a log of at most `limit` commits, by a session that commits these lists, to

@@ -56,6 +56,7 @@ pub(crate) fn name_of(error: CloseError) -> Option<&'static str>
         CloseError::ConnectionMissing => Some("ConnectionMissing"),
         CloseError::StartLate => Some("StartLate"),
         CloseError::StartEarly => Some("StartEarly"),
+        CloseError::SlotDiffers => Some("SlotDiffers"),
         CloseError::OutOfMemory => None,
     }
 }

@@ -4,7 +4,7 @@ use crate::cases::Step::{
     Commit, Confirm, LoseFirst, LoseLast, LoseSeat, Read, Request, Reverse, Serve, ServeConfirming,
 };
 use senders::CloseError;
-use senders::CloseError::{ConnectionMissing, CountDiffers, StartLate, TakenDiffers};
+use senders::CloseError::{ConnectionMissing, CountDiffers, SlotDiffers, StartLate, TakenDiffers};
 
 /// What is done with a publisher, which has one session. Connections are of the first slot.
 #[derive(Clone, Copy, Debug, PartialEq, Eq)]
@@ -59,4 +59,9 @@ pub(crate) const CASES: &[Case] = &[
         &[Commit, Commit, Confirm, Serve, Request, Reverse],
         Some(StartLate),
     ),
+    // The same if no connection starts after the slot is confirmed.
+    (&[Commit, Commit, Confirm], Some(SlotDiffers)),
+    (&[Commit, Serve, Confirm], Some(SlotDiffers)),
+    (&[Commit, ServeConfirming, Confirm], None),
+    (&[Commit, Commit, Request, Confirm], None),
 ];

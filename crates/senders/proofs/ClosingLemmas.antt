@@ -36,7 +36,7 @@ use Rattle.publisher_desk.specs.Viewers.{ClosingOf, IsSeenIn, log_seen}
 use Rattle.senders.specs.Gathering.{receipts_in, all_receipts, all_readings, numbers_of, IsRisingSeat}
 use Rattle.senders.specs.Histories.{AreInOrder, AreWitnessed, IsLogOfSeats, IsRight}
 use Rattle.senders.specs.Replays.{IsAsLong, IsConfirmedAs, IsUnlikeIn, Replays}
-use Rattle.senders.specs.Reached.{AreReached, AreResumed, IsOrder, LacksConnection}
+use Rattle.senders.specs.Reached.{AreKept, AreReached, AreResumed, IsOrder, LacksConnection}
 use Rattle.senders.specs.Results.{ServedOf}
 use Rattle.senders.specs.Starts.{AreInTime, AreOrdered, IsStartCause}
 use Rattle.senders.specs.TakenCommits.{IsTaken, IsWhole}
@@ -141,6 +141,7 @@ unlike_cause book acquired seats served order f.TakenDiffers ordered long unlike
 unlike_cause book acquired seats served order f.ConnectionMissing ordered long unlike = absurd unlike
 unlike_cause book acquired seats served order f.StartLate ordered long unlike = absurd unlike
 unlike_cause book acquired seats served order f.StartEarly ordered long unlike = absurd unlike
+unlike_cause book acquired seats served order f.SlotDiffers ordered long unlike = absurd unlike
 unlike_cause book acquired seats served order f.OutOfMemory ordered long unlike = tt
 
 module _ (book fresh : Book) (seats : List SeatOf) (order : List ReceiptOf) (ordered : AreInOrder seats order)
@@ -193,7 +194,7 @@ module _ (book fresh : Book) (seats : List SeatOf) (order : List ReceiptOf) (ord
       }
 
       start_cause : (error : CloseError)
-          → IsStartCause (length (book_checked book).catalog.subscriptions) acquired served error
+          → IsStartCause (length (book_checked book).catalog.subscriptions) (book_slots book) acquired served error
           → IsCloseCause book acquired seats served error
       unfolding explained_by has_starts
       start_cause f.CountDiffers cause = absurd cause
@@ -210,12 +211,16 @@ module _ (book fresh : Book) (seats : List SeatOf) (order : List ReceiptOf) (ord
       start_cause f.StartLate cause = has_starts (λ slots starts. ¬ AreReached slots starts) cause
       start_cause f.StartEarly cause =
           has_starts (λ slots starts. AreReached slots starts × ¬ AreResumed slots starts) cause
+      start_cause f.SlotDiffers cause =
+          has_starts (λ slots starts. AreReached slots starts × AreResumed slots starts
+          × ¬ AreKept slots (book_slots book) starts) cause
       start_cause f.OutOfMemory cause = tt
 
-      is_closed : AreInTime (length (book_checked book).catalog.subscriptions) acquired served
+      is_closed : AreInTime (length (book_checked book).catalog.subscriptions) (book_slots book) acquired served
+          → book_slots book ≡ closing.slots
           → All IsForwardSeat seats → All IsTimedSeat seats → (last : Book) → IsConfirmedAs closing.slots fresh last
           → IsClosed (book_checked book) (book_limit book) closing seats served last
-      is_closed times forward timed last kept =
+      is_closed times slots_are forward timed last kept =
           let all : StandsFor fresh (transactions_of order) × (book_log fresh ≡ book_log book) =
           replays_all book fresh order replayed long count in
           let same : order ≡ closing.log =
@@ -245,6 +250,8 @@ module _ (book fresh : Book) (seats : List SeatOf) (order : List ReceiptOf) (ord
             ordered_starts = subst (λ n. IsOrder n served times.starts) told.count times.ordered;
             reached = times.reached;
             resumed = times.resumed;
+            kept = subst (λ (slots : List Slot). AreKept (length (book_checked book).catalog.subscriptions) slots
+                times.starts) slots_are times.kept;
           }
 
 -- ---- what is compared, where lists are seen as slices
@@ -315,24 +322,26 @@ module _ (book fresh : Book) (seats : List SeatOf) (receipts seen : List (Bor Re
           (whole : All (IsWhole (book_log book)) served) (closing : ClosingOf)
           (told : AreWitnessed (book_checked book) closing acquired seats served book) where
         pub start_compared : {A : Type 0} (result : Result A CloseError)
-            → IfErr result (IsStartCause slots acquired served) → IfErr result (IsCloseCause book acquired seats served)
+            → IfErr result (IsStartCause slots (book_slots book) acquired served)
+            → IfErr result (IsCloseCause book acquired seats served)
         unfolding seen_count seen_ordered seen_long seen_right
         start_compared (Ok done) cause = tt
         start_compared (Err error) cause =
             start_cause book fresh seats (map (λ (one : Bor ReceiptOf). one.now) seen) seen_ordered seen_long replayed
             seen_count seen_right acquired served closing told whole error
-            (subst (λ n. IsStartCause n acquired served error) slots_are cause)
+            (subst (λ n. IsStartCause n (book_slots book) acquired served error) slots_are cause)
 
         pub closed_compared : {A : Type 0} (result : Result A CloseError)
-            → OnOk result (AreInTime slots acquired served) → All IsForwardSeat seats → All IsTimedSeat seats
+            → OnOk result (AreInTime slots (book_slots book) acquired served) → book_slots book ≡ closing.slots
+            → All IsForwardSeat seats → All IsTimedSeat seats
             → OnOk result ((last : Book) → IsConfirmedAs closing.slots fresh last
             → IsClosed (book_checked book) (book_limit book) closing seats served last)
         unfolding seen_count seen_ordered seen_long seen_right
-        closed_compared (Ok done) times forward timed =
+        closed_compared (Ok done) times confirmed forward timed =
             is_closed book fresh seats (map (λ (one : Bor ReceiptOf). one.now) seen) seen_ordered seen_long replayed
             seen_count seen_right acquired served closing told whole
-            (subst (λ n. AreInTime n acquired served) slots_are times) forward timed
-        closed_compared (Err error) times forward timed = tt
+            (subst (λ n. AreInTime n (book_slots book) acquired served) slots_are times) confirmed forward timed
+        closed_compared (Err error) times confirmed forward timed = tt
 
 -- ---- the closed book
 
@@ -395,7 +404,8 @@ module _ (checked : CheckedOf) (limit all left : ℕ) (closing : ClosingOf) (sea
     reason = why;
   }
 
-  module _ (acquired : ℕ) (acquired_is : acquired ≡ acquisitions closing.events) where
+  module _ (acquired : ℕ) (acquired_is : acquired ≡ acquisitions closing.events)
+      (slots_are : book_slots book ≡ closing.slots) where
     starts_are : (so : ℕ → List ServedOf → Type 0) → HasStarts book acquired seats served so
         → StartsAre checked closing seats served so
     unfolding long log_is
@@ -430,6 +440,11 @@ module _ (checked : CheckedOf) (limit all left : ℕ) (closing : ClosingOf) (sea
     reason f.StartLate cause can = starts_are (λ slots starts. ¬ AreReached slots starts) cause
     reason f.StartEarly cause can =
         starts_are (λ slots starts. AreReached slots starts × ¬ AreResumed slots starts) cause
+    reason f.SlotDiffers cause can =
+        starts_are (λ slots starts. AreReached slots starts × AreResumed slots starts
+        × ¬ AreKept slots closing.slots starts)
+        (subst (λ (list : List Slot). HasStarts book acquired seats served (λ slots starts. AreReached slots starts
+        × AreResumed slots starts × ¬ AreKept slots list starts)) slots_are cause)
     reason f.OutOfMemory cause can = tt
 
     pub refused_as_named : (gathered : List SeatOf) (shown : List ServedOf) (error : CloseError) → gathered ≡ seats

@@ -357,6 +357,7 @@ module _ (checked : CheckedOf) (log : List ReceiptOf) (book : Book) (seats : Lis
   can_come acquired served f.ConnectionMissing cause = tt
   can_come acquired served f.StartLate cause = tt
   can_come acquired served f.StartEarly cause = tt
+  can_come acquired served f.SlotDiffers cause = tt
   can_come acquired served f.OutOfMemory cause = tt
 
 -- ---- what the publisher says of its seats and connections

@@ -10,6 +10,7 @@ use Rattle.std.specs.Prelude.{All, Contains, Some, slice_get}
 use Rattle.filter_tree.proofs.Tests.{by_test}
 use Rattle.senders.specs.Reached.{Accounts, Confirms, Requests, IsAccounted, IsOrder, IsReached, numbers_in, started_in}
 use Rattle.senders.specs.Results.{ServedOf, taken_from}
+use Rattle.senders.specs.Starts.{IsReach}
 use Rattle.senders.specs.TakenCommits.{confirmed_to}
 use Rattle.senders.proofs.ReplayLemmas.{get_here, take_one_more}
 
@@ -100,6 +101,17 @@ none_reached slot = record {
       absurd (omega (arith, ap length same, length-append earlier (one ∷ later)));
 }
 
+module _ (slot reach : ℕ) (order : List ServedOf) (before : AreReachedTo slot reach order) where
+  not_before : (other : ServedOf) → Contains order other → Accounts slot reach other → ⊥
+  not_before other among (Confirms its low high) =
+      let upto = All-contains (ReachesTo slot reach) order other before.passed among its in omega (arith, upto, high)
+  not_before other among (Requests its requested below) =
+      let upto = All-contains (ReachesTo slot reach) order other before.passed among its in omega (arith, upto, below)
+
+  pub reach_is : IsReach order slot reach
+  unfolding not_before
+  reach_is = record { all = before.accounted; next = λ so. not_before so.one so.among so.by }
+
 module _ (slot reach : ℕ) (order : List ServedOf) (one : ServedOf) (before : AreReachedTo slot reach order) where
   -- what was accounted for still is
   still : (count : ℕ) → IsAccounted order slot count → IsAccounted (order ++ one ∷ []) slot count
@@ -165,17 +177,11 @@ module _ (slot reach : ℕ) (order : List ServedOf) (one : ServedOf) (before : A
       not_by_it (Confirms its low high) = absurd (omega (arith, low, late))
       not_by_it (Requests its requested below) = absurd cc
 
-      not_before : (other : ServedOf) → Contains order other → Accounts slot reach other → ⊥
-      not_before other among (Confirms its low high) =
-          let upto = All-contains (ReachesTo slot reach) order other before.passed among its in omega (arith, upto, high)
-      not_before other among (Requests its requested below) =
-          let upto = All-contains (ReachesTo slot reach) order other before.passed among its in omega (arith, upto, below)
-
       pub not_reached : (all later : List ServedOf) → all ≡ order ++ one ∷ later → ¬ IsReached all slot
       unfolding not_by_it not_before
       not_reached all later same reached =
           let by : IsAccounted (order ++ one ∷ []) slot reach = reached order one later same of reach late in
           elim (Contains-push_cases order one by.one by.among) [
-            | inl among ↦ not_before by.one among by.by
+            | inl among ↦ not_before slot reach order before by.one among by.by
             | inr is ↦ not_by_it (subst (Accounts slot reach) (sym is) by.by)
           ]

@@ -181,6 +181,7 @@ module _ (book old : Book) (order : List ReceiptOf) (receipt : ReceiptOf) (place
   missing_one long f.ConnectionMissing missing = missing
   missing_one long f.StartLate missing = missing
   missing_one long f.StartEarly missing = missing
+  missing_one long f.SlotDiffers missing = missing
   missing_one long f.OutOfMemory missing = tt
 
 -- ---- what one call tells

@@ -1,11 +1,16 @@
--- How far the clients of a slot confirmed the log, connection by connection in the order of their numbers.
-use Rattle.std.proofs.Common.{◌≡◌, ◌≢◌, ℕ, ◌+◌, ◌<◌, ◌≤◌, max, List, [], ◌∷◌, ◌++◌, length, refl, sym, ap, subst, ◌∙◌, arith, ltb, length-append}
-use Rattle.std.proofs.lemmas.Bool.{ltb-true, ltb-false}
+-- How far the clients of a slot confirmed the log, connection by connection in the order of their numbers; and whether
+-- the slot is confirmed up to there in the end.
+use Rattle.std.proofs.Common.{◌≡◌, ◌≢◌, ℕ, ◌+◌, ◌<◌, ◌≤◌, max, List, [], ◌∷◌, ◌++◌, length, refl, sym, ap, subst, ◌∙◌, arith, leb, ltb, length-append}
+use Rattle.std.proofs.lemmas.Bool.{leb-true, leb-false, ltb-true, ltb-false}
 use Rattle.std.proofs.lemmas.List.Elements.{All-nil, All-pop, All-push, All-weaker}
-use Rattle.std.specs.Prelude.{All, Some, unwrap_or}
+use Rattle.std.specs.Prelude.{All, Bool, IfNone, MatchBool, None, OnSome, Option, Some, is_some, unwrap_or}
 use Rattle.filter_tree.proofs.Tests.{by_test}
-use Rattle.senders.specs.Reached.{AreResumed, IsResumed}
+use Rattle.tables_log.specs.Lsn.{commits_before}
+use Rattle.tables_log.specs.Slots.{confirmed_at}
+use Rattle.tables_log.specs.declared.slots.Slot.{Slot}
+use Rattle.senders.specs.Reached.{AreKept, AreResumed, IsKept, IsResumed}
 use Rattle.senders.specs.Results.{ServedOf}
+use Rattle.senders.specs.Starts.{IsGreatest, IsReach}
 use Rattle.senders.proofs.ReachLemmas.{IsLast, IsPlaced, IsWithin, placed}
 
 -- if it is of the slot, its client confirmed nothing after this position
@@ -25,6 +30,10 @@ none_resumed slot = record {
   least = λ position all. omega arith;
   so_far = λ earlier one later same of. absurd (omega (arith, ap length same, length-append earlier (one ∷ later)));
 }
+
+pub greatest_is : (slot greatest : ℕ) (order : List ServedOf) → AreResumedTo slot greatest order
+    → IsGreatest order slot greatest
+greatest_is slot greatest order so_far = record { all = so_far.passed; least = so_far.least }
 
 module _ (slot greatest : ℕ) (order : List ServedOf) (one : ServedOf) (before : AreResumedTo slot greatest order) where
   -- what is so of all is so of those before it
@@ -89,3 +98,52 @@ one_slot_more slots order before last slot below = by_test (ltb slot slots)
     (λ less. before slot (ltb-true slot slots less))
     (λ more. let least = ltb-false slot slots more in
     let is : slots ≡ slot = omega (arith, least, below) in subst (IsResumed order) is last)
+
+-- ---- the position up to which the slot is confirmed in the end
+
+module _ (order : List ServedOf) (slots : List Slot) (slot reach greatest position : ℕ)
+    (reach_is : IsReach order slot reach) (greatest_is : IsGreatest order slot greatest)
+    (is : position ≡ confirmed_at slots slot) where
+  pub kept : commits_before position ≤ reach → greatest ≤ position → IsKept order slots slot
+  kept far near =
+      let same : commits_before position ≡ commits_before (confirmed_at slots slot) = ap commits_before is in
+      record {
+        reached = λ count below. reach_is.all count (omega (arith, below, far, same));
+        resumed = All-weaker (ConfirmsTo slot greatest) (ConfirmsTo slot (confirmed_at slots slot))
+            (λ other low its. let upto = low its in omega (arith, upto, near, is)) order greatest_is.all;
+      }
+
+  -- it is after a commit that is not accounted for
+  pub kept_late : reach < commits_before position → ¬ IsKept order slots slot
+  kept_late late so =
+      let same : commits_before position ≡ commits_before (confirmed_at slots slot) = ap commits_before is in
+      reach_is.next (so.reached reach (omega (arith, late, same)))
+
+  -- it is before what is reported as confirmed
+  pub kept_early : position < greatest → ¬ IsKept order slots slot
+  kept_early early so =
+      let least = greatest_is.least (confirmed_at slots slot) so.resumed in absurd (omega (arith, least, early, is))
+
+  pub kept_so : commits_before position ≤ reach
+      → MatchBool (leb greatest position) (IsKept order slots slot) (¬ IsKept order slots slot)
+  unfolding kept kept_early
+  kept_so far = by_test (leb greatest position)
+      (λ near. subst (λ (b : Bool). MatchBool b (IsKept order slots slot) (¬ IsKept order slots slot)) (sym near)
+      (kept far (leb-true greatest position near)))
+      (λ early. subst (λ (b : Bool). MatchBool b (IsKept order slots slot) (¬ IsKept order slots slot)) (sym early)
+      (kept_early (leb-false greatest position early)))
+
+pub one_kept_more : (slots : List Slot) (count : ℕ) (order : List ServedOf) → AreKept count slots order
+    → IsKept order slots count → AreKept (count + 1) slots order
+one_kept_more slots count order before last slot below = by_test (ltb slot count)
+    (λ less. before slot (ltb-true slot count less))
+    (λ more. let least = ltb-false slot count more in
+    let is : count ≡ slot = omega (arith, least, below) in subst (IsKept order slots) is last)
+
+-- ---- answers
+
+-- what is found is so, and it is not so where nothing is found
+pub found_so : {A : Type 0} (P : Type 0) (found : Option A) (so : Bool) → so ≡ is_some found → OnSome found P
+    → IfNone found (¬ P) → MatchBool so P (¬ P)
+found_so P None so is holds fails = subst (λ (b : Bool). MatchBool b P (¬ P)) (sym is) fails
+found_so P (Some x) so is holds fails = subst (λ (b : Bool). MatchBool b P (¬ P)) (sym is) holds

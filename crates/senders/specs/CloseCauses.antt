@@ -5,7 +5,7 @@ use Rattle.std.specs.List.Sorted.{IsPermutation, IsNonDecreasingBy}
 use Rattle.table_changes.specs.Records.{record_of}
 use Rattle.table_changes.specs.Setting.{Setting}
 use Rattle.table_changes.specs.Tables.{no_rows}
-use Rattle.tables_log.specs.BookView.{book_checked, book_setting, book_log}
+use Rattle.tables_log.specs.BookView.{book_checked, book_setting, book_log, book_slots}
 use Rattle.tables_log.specs.Commits.{CommitOf, commit_of}
 use Rattle.tables_log.specs.StandsFor.{IsAccepted, AreAccepted, entries_from, after}
 use Rattle.tables_log.specs.declared.book.Book.{Book}
@@ -14,11 +14,11 @@ use Rattle.publisher_desk.specs.Seats.{SeatOf}
 use Rattle.publisher_desk.specs.Logged.{RiseTo}
 use Rattle.senders.specs.Gathering.{all_receipts, all_readings, numbers_of, IsRisingSeat}
 use Rattle.senders.specs.Histories.{AreInOrder, IsRight}
-use Rattle.senders.specs.Reached.{AreReached, AreResumed, IsOrder, LacksConnection}
+use Rattle.senders.specs.Reached.{AreKept, AreReached, AreResumed, IsOrder, LacksConnection}
 use Rattle.senders.specs.Results.{ServedOf}
 use Rattle.senders.specs.TakenCommits.{IsTaken}
 use Rattle.senders.specs.declared.close_error.CloseError.{CloseError}
-use Rattle.senders.specs.declared.close_error.CloseError.TheVariants.{CountDiffers, ReceiptMissing, ReadingWrong, TakenDiffers, ConnectionMissing, StartLate, StartEarly, OutOfMemory}
+use Rattle.senders.specs.declared.close_error.CloseError.TheVariants.{CountDiffers, ReceiptMissing, ReadingWrong, TakenDiffers, ConnectionMissing, StartLate, StartEarly, SlotDiffers, OutOfMemory}
 
 -- ---- a receipt that the log does not have
 
@@ -115,6 +115,9 @@ IsCloseCause book acquired seats served StartLate =
     HasStarts book acquired seats served (λ slots starts. ¬ AreReached slots starts)
 IsCloseCause book acquired seats served StartEarly =
     HasStarts book acquired seats served (λ slots starts. AreReached slots starts × ¬ AreResumed slots starts)
+IsCloseCause book acquired seats served SlotDiffers =
+    HasStarts book acquired seats served (λ slots starts. AreReached slots starts × AreResumed slots starts
+    × ¬ AreKept slots (book_slots book) starts)
 IsCloseCause book acquired seats served OutOfMemory = Unit {0}
 
 -- A receipt is never missing, and no reading is wrong: the publisher's history ties them to its log, and a seat of
@@ -127,4 +130,5 @@ CanCome TakenDiffers = Unit {0}
 CanCome ConnectionMissing = Unit {0}
 CanCome StartLate = Unit {0}
 CanCome StartEarly = Unit {0}
+CanCome SlotDiffers = Unit {0}
 CanCome OutOfMemory = Unit {0}

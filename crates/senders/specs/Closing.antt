@@ -14,7 +14,7 @@ use Rattle.publisher_desk.specs.Viewers.{ClosingOf, IsSeenIn}
 use Rattle.publisher_desk.specs.declared.slot_event.SlotEvent.{SlotEvent}
 use Rattle.senders.specs.Gathering.{all_readings}
 use Rattle.senders.specs.Histories.{AreInOrder, IsRight}
-use Rattle.senders.specs.Reached.{AreReached, AreResumed, IsOrder}
+use Rattle.senders.specs.Reached.{AreKept, AreReached, AreResumed, IsOrder}
 use Rattle.senders.specs.Results.{HadStream, ServedOf}
 use Rattle.senders.specs.TakenCommits.{IsTaken}
 
@@ -32,7 +32,9 @@ HadStreamIn events one =
 -- slot and released it, and no event in between is of the slot; each acquisition is that of one of the connections. In
 -- the order of these, each commit before the start of a connection was taken for an earlier one of its slot, whose
 -- client confirmed it, or is before a position that its client, or that of an earlier one of the slot, requested; and
--- no start is before a position that an earlier one of the slot reports as confirmed.
+-- no start is before a position that an earlier one of the slot reports as confirmed. The same holds of the position up
+-- to which each of the publisher's slots is confirmed: each commit before it is accounted for by a connection of the
+-- slot, and no connection of the slot reports a later position.
 pub record IsClosed (checked : CheckedOf) (limit : ℕ) (closing : ClosingOf) (seats : List SeatOf)
     (served : List ServedOf) (book : Book) : Type 0 where
   pub named : book_checked book ≡ checked
@@ -53,3 +55,4 @@ pub record IsClosed (checked : CheckedOf) (limit : ℕ) (closing : ClosingOf) (s
   pub ordered_starts : IsOrder (acquisitions closing.events) served starts
   pub reached : AreReached (length checked.catalog.subscriptions) starts
   pub resumed : AreResumed (length checked.catalog.subscriptions) starts
+  pub kept : AreKept (length checked.catalog.subscriptions) closing.slots starts

@@ -1,8 +1,12 @@
 -- That no stream started after commits of the log that no client of its slot confirmed, or before a position that one
--- confirmed: PostgreSQL 15, "Logical Replication", 31.2.1 Replication Slot Management.
+-- confirmed, and that in the end no slot is confirmed up to such a position: PostgreSQL 15, "Logical Replication",
+-- 31.2.1 Replication Slot Management.
 use Rattle.std.specs.Prelude.{◌≡◌, ◌≢◌, ◌<◌, ◌≤◌, ℕ, true, List, [], ◌∷◌, ◌++◌, All, Contains, map, unwrap_or, Option, Some, None}
 use Rattle.std.specs.List.{range_with_len}
 use Rattle.std.specs.List.Sorted.{IsPermutation, IsNonDecreasingBy}
+use Rattle.tables_log.specs.Lsn.{commits_before}
+use Rattle.tables_log.specs.Slots.{confirmed_at}
+use Rattle.tables_log.specs.declared.slots.Slot.{Slot}
 use Rattle.senders.specs.Results.{ServedOf, taken_from}
 use Rattle.senders.specs.TakenCommits.{confirmed_to}
 
@@ -73,3 +77,15 @@ IsResumed order slot = (earlier : List ServedOf) (one : ServedOf) (later : List 
 -- so it is of each slot
 abbrev pub AreResumed : ℕ → List ServedOf → Type 0
 AreResumed slots order = (slot : ℕ) → slot < slots → IsResumed order slot
+
+-- ---- the positions up to which slots are confirmed in the end
+
+-- This slot is confirmed up to a position from which a stream may start that no client requests: each commit before the
+-- position is accounted for by a connection of the slot, and none of the slot reports a later position as confirmed.
+pub record IsKept (order : List ServedOf) (slots : List Slot) (slot : ℕ) : Type 0 where
+  pub reached : (count : ℕ) → count < commits_before (confirmed_at slots slot) → IsAccounted order slot count
+  pub resumed : All (λ (other : ServedOf). other.slot ≡ Some slot → other.confirmed ≤ confirmed_at slots slot) order
+
+-- so it is of each of so many slots
+abbrev pub AreKept : ℕ → List Slot → List ServedOf → Type 0
+AreKept count slots order = (slot : ℕ) → slot < count → IsKept order slots slot

@@ -71,9 +71,10 @@ fn keep_confirmed(fresh: &mut Book, book: &Book, slots: usize)
     }
 }
 
-/// Makes the receipts again on the fresh book, which has no commits, and compares readings and connections with it. The
-/// catalog has this number of slots, which streams acquired as often as `acquired` says. The history of the publisher
-/// says that the notes of the seats are right, and what the connections have seen of its log and its slots.
+/// Makes the receipts again on the fresh book, which has no commits, and compares readings and connections with it, and
+/// the slots of `book` with the connections. The catalog has this number of slots, which streams acquired as often as
+/// `acquired` says. The history of the publisher says that the notes of the seats are right, and what the connections
+/// have seen of its log and its slots.
 fn compare<P: Publishing>(
     alloc: Global,
     fresh: &mut Book,
@@ -87,6 +88,7 @@ fn compare<P: Publishing>(
     requires slots { slots ≡ length (book_checked book.now).catalog.subscriptions }
     ensures ok { (closing : ClosingOf)
         → AreWitnessed (book_checked book.now) closing acquired seats.now served.now book.now
+        → book_slots book.now ≡ closing.slots
         → OnOk result ((last : Book) → IsConfirmedAs closing.slots fresh.new last
         → IsClosed (book_checked book.now) (book_limit book.now) closing seats.now served.now last) }
     ensures log { OnOk result (length (book_log book.now) ≡ length (book_log fresh.new)) }
@@ -105,7 +107,7 @@ fn compare<P: Publishing>(
     if !are_whole(book, served) {
         return Err(CloseError::TakenDiffers);
     }
-    check_starts(alloc, slots, acquired, served)
+    check_starts(alloc, book, slots, acquired, served)
 }
 
 /// Establishes of each connection that what it has seen is the beginning of the log and of the events of the slots.
@@ -151,22 +153,23 @@ fn count_all<P: Publishing>(
 /// acquisitions, each commit before the start of a connection has to be one that was taken for an earlier connection of
 /// its slot, whose client confirmed it, or to be before a position that its client, or that of an earlier one of the
 /// slot, requested. Its start must not be before a position that an earlier connection of its slot reports as
-/// confirmed. The book that is returned is the one on which the receipts were made again. Its slots are free, and
-/// confirmed as far as the publisher's.
+/// confirmed. The same has to hold of the position up to which each slot of the publisher is confirmed, as if a stream
+/// that no client requested started there after all others. The book that is returned is the one on which the receipts
+/// were made again. Its slots are free, and confirmed as far as the publisher's.
 ///
 /// `closing` and `rest` stay as they are. So a seat or a connection that is not passed in can be compared with them
 /// afterwards, by `Closing::count` or `Served::check`.
 ///
 /// It takes the time to commit all commands again, as in `Book::commit`; to sort the receipts, the readings and the
-/// connections; to look up the row of each reading; and to pass over the connections twice for each slot.
+/// connections; to look up the row of each reading; and to pass over the connections four times for each slot.
 ///
 /// # Errors
 ///
-/// The first of `CountDiffers`, `ReceiptMissing`, `ReadingWrong`, `TakenDiffers`, `ConnectionMissing`, `StartLate` and
-/// `StartEarly`, or `OutOfMemory` instead of any of them if an allocation was refused. `CountDiffers` is returned only
-/// if a seat is held back. `ReceiptMissing` and `ReadingWrong` are never returned, since the publisher's history says
-/// that the notes of its seats are right. If there is an error, the seats and the connections that were passed in are
-/// dropped.
+/// The first of `CountDiffers`, `ReceiptMissing`, `ReadingWrong`, `TakenDiffers`, `ConnectionMissing`, `StartLate`,
+/// `StartEarly` and `SlotDiffers`, or `OutOfMemory` instead of any of them if an allocation was refused. `CountDiffers`
+/// is returned only if a seat is held back. `ReceiptMissing` and `ReadingWrong` are never returned, since the
+/// publisher's history says that the notes of its seats are right. If there is an error, the seats and the connections
+/// that were passed in are dropped.
 ///
 /// PostgreSQL 15, 3.4. Transactions, and 55.4. Streaming Replication Protocol.
 pub fn close<P: Publishing>(

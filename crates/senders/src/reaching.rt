@@ -1,20 +1,21 @@
 //! Whether no stream started after commits that no client of its slot confirmed, or before a position that one
-//! confirmed.
+//! confirmed, and whether no slot is confirmed up to such a position in the end.
 
-ghost use Rattle.std.specs.Prelude.{◌≡◌, ◌≢◌, ◌<◌, ◌≤◌, All, IfErr, IfOk, MatchBool, OnOk, Some, false, map, true};
+ghost use Rattle.std.specs.Prelude.{◌≡◌, ◌≢◌, ◌<◌, ◌≤◌, IfErr, IfNone, IfOk, IfSome, MatchBool, OnOk, OnSome, Some, false, map, true};
 ghost use Rattle.std.specs.Option.{unwrap_or};
 ghost use Rattle.std.specs.List.{range_with_len};
 ghost use Rattle.std.specs.List.Sorted.{IsNonDecreasingBy, IsPermutation};
-ghost use Rattle.senders.specs.Reached.{AreReached, AreResumed, IsReached, IsResumed, numbers_in, started_in};
+ghost use Rattle.tables_log.specs.BookView.{book_slots};
+ghost use Rattle.senders.specs.Reached.{AreKept, AreReached, AreResumed, IsKept, IsReached, IsResumed, numbers_in, started_in};
 ghost use Rattle.senders.specs.Results.{taken_from};
-ghost use Rattle.senders.specs.Starts.{AreInTime, IsStartCause};
+ghost use Rattle.senders.specs.Starts.{AreInTime, IsGreatest, IsReach, IsStartCause};
 
 use crate::close_error::CloseError;
 use crate::served::Served;
 use crate::taken::{commits_before, commits_confirmed};
 use publisher_desk::Publishing;
 use std::alloc::{AllocError, Global};
-use tables_log::SlotNumber;
+use tables_log::{Book, Lsn, SlotNumber};
 
 /// The connections that started a stream, by reference. The only error is out of memory.
 fn starts_in<P: Publishing>(
@@ -73,22 +74,33 @@ fn is_late<P: Publishing>(one: &Served<P>, reach: u64) -> bool
     commits_before(one) > reach && !one.is_requested()
 }
 
+/// How many of the log's first commits were taken for a connection of the slot whose client confirmed them, or are
+/// before a position that a client of the slot requested; `None` if a connection of the slot started after a commit
+/// that is not so accounted for by it or by one before it.
+fn reach_in<P: Publishing>(starts: &[&Served<P>], slot: SlotNumber) -> Option<u64>
+    ensures reached { OnSome result (IsReached (map (λ one. one.now) starts.now) slot) }
+    ensures reach { IfSome result (IsReach (map (λ one. one.now) starts.now) slot) }
+    ensures late { IfNone result (¬ IsReached (map (λ one. one.now) starts.now) slot) }
+{
+    let mut reach = 0;
+    for one in starts {
+        if is_of(one, slot) {
+            if is_late(one, reach) {
+                return None;
+            }
+            reach = reach.max(commits_before(one)).max(commits_confirmed(one));
+        }
+    }
+    Some(reach)
+}
+
 /// Whether each commit before the start of a connection of the slot was taken for a connection of the slot before it,
 /// whose client confirmed it, or is before a position that its client, or that of one of the slot before it, requested.
 fn is_reached<P: Publishing>(starts: &[&Served<P>], slot: SlotNumber) -> bool
     ensures { MatchBool result (IsReached (map (λ one. one.now) starts.now) slot)
         (¬ IsReached (map (λ one. one.now) starts.now) slot) }
 {
-    let mut reach = 0;
-    for one in starts {
-        if is_of(one, slot) {
-            if is_late(one, reach) {
-                return false;
-            }
-            reach = reach.max(commits_before(one)).max(commits_confirmed(one));
-        }
-    }
-    true
+    reach_in(starts, slot).is_some()
 }
 
 /// Whether this is so of each of this number of slots.
@@ -111,21 +123,31 @@ fn is_early<P: Publishing>(one: &Served<P>, position: u64) -> bool
     one.start().unwrap_or(0) < position
 }
 
-/// Whether no connection of the slot started before a position that the client of an earlier one of the slot confirmed.
-fn is_resumed<P: Publishing>(starts: &[&Served<P>], slot: SlotNumber) -> bool
-    ensures { MatchBool result (IsResumed (map (λ one. one.now) starts.now) slot)
-        (¬ IsResumed (map (λ one. one.now) starts.now) slot) }
+/// The greatest position that a client of the slot confirmed, 0 if none did; `None` if a connection of the slot started
+/// before a position that the client of an earlier one of the slot confirmed.
+fn greatest_in<P: Publishing>(starts: &[&Served<P>], slot: SlotNumber) -> Option<u64>
+    ensures resumed { OnSome result (IsResumed (map (λ one. one.now) starts.now) slot) }
+    ensures greatest { IfSome result (IsGreatest (map (λ one. one.now) starts.now) slot) }
+    ensures early { IfNone result (¬ IsResumed (map (λ one. one.now) starts.now) slot) }
 {
     let mut greatest = 0;
     for one in starts {
         if is_of(one, slot) {
             if is_early(one, greatest) {
-                return false;
+                return None;
             }
             greatest = greatest.max(one.confirmed());
         }
     }
-    true
+    Some(greatest)
+}
+
+/// Whether no connection of the slot started before a position that the client of an earlier one of the slot confirmed.
+fn is_resumed<P: Publishing>(starts: &[&Served<P>], slot: SlotNumber) -> bool
+    ensures { MatchBool result (IsResumed (map (λ one. one.now) starts.now) slot)
+        (¬ IsResumed (map (λ one. one.now) starts.now) slot) }
+{
+    greatest_in(starts, slot).is_some()
 }
 
 /// Whether this is so of each of this number of slots.
@@ -141,36 +163,78 @@ fn are_resumed<P: Publishing>(starts: &[&Served<P>], slots: usize) -> bool
     true
 }
 
+/// Whether each commit before the position up to which the book's slot is confirmed was taken for a connection of the
+/// slot whose client confirmed it, or is before a position that a client of the slot requested; and whether no client
+/// of the slot confirmed a later position.
+fn is_kept<P: Publishing>(starts: &[&Served<P>], book: &Book, slot: SlotNumber) -> bool
+    requires reached { IsReached (map (λ one. one.now) starts.now) slot }
+    requires resumed { IsResumed (map (λ one. one.now) starts.now) slot }
+    ensures { MatchBool result (IsKept (map (λ one. one.now) starts.now) (book_slots book.now) slot)
+        (¬ IsKept (map (λ one. one.now) starts.now) (book_slots book.now) slot) }
+{
+    let Some(reach) = reach_in(starts, slot) else {
+        return false;
+    };
+    let Some(greatest) = greatest_in(starts, slot) else {
+        return false;
+    };
+    let position = book.confirmed(slot);
+    Lsn::new(position).commits_before() <= reach && greatest <= position
+}
+
+/// Whether this is so of each of this number of slots.
+fn are_kept<P: Publishing>(starts: &[&Served<P>], book: &Book, slots: usize) -> bool
+    requires reached { AreReached slots (map (λ one. one.now) starts.now) }
+    requires resumed { AreResumed slots (map (λ one. one.now) starts.now) }
+    ensures { MatchBool result (AreKept slots (book_slots book.now) (map (λ one. one.now) starts.now))
+        (¬ AreKept slots (book_slots book.now) (map (λ one. one.now) starts.now)) }
+{
+    for slot in 0..slots {
+        if !is_kept(starts, book, slot) {
+            return false;
+        }
+    }
+    true
+}
+
 /// Checks that, of this number of acquisitions of slots, each is that of a connection. Then, for each of this number of
 /// slots, in the order of their numbers: each commit before the start of a connection of the slot was taken for an
 /// earlier one of the slot, whose client confirmed it, or is before a position that its client, or that of an earlier
 /// one of the slot, requested. Then, for each of these slots, in the same order: no connection of the slot started
-/// before a position that the client of an earlier one of the slot confirmed.
+/// before a position that the client of an earlier one of the slot confirmed. Then, for each of these slots: each
+/// commit before the position up to which the book's slot is confirmed was taken for a connection of the slot, whose
+/// client confirmed it, or is before a position that a client of the slot requested; and no client of the slot
+/// confirmed a later position.
 ///
-/// It takes the time to sort the connections once, and to pass over them twice for each slot.
+/// It takes the time to sort the connections once, and to pass over them four times for each slot.
 ///
 /// # Errors
 ///
-/// The first of `ConnectionMissing`, `StartLate` and `StartEarly`, or out of memory.
+/// The first of `ConnectionMissing`, `StartLate`, `StartEarly` and `SlotDiffers`, or out of memory.
 pub(crate) fn check_starts<P: Publishing>(
     alloc: Global,
+    book: &Book,
     slots: usize,
     acquired: u64,
     served: &[Served<P>],
 ) -> Result<(), CloseError>
-    ensures ok { OnOk result (AreInTime slots acquired served.now) }
-    ensures err { IfErr result (IsStartCause slots acquired served.now) }
+    ensures ok { OnOk result (AreInTime slots (book_slots book.now) acquired served.now) }
+    ensures err { IfErr result (IsStartCause slots (book_slots book.now) acquired served.now) }
 {
     let mut starts = starts_in(alloc, served)?;
     sort_by_number(&mut starts);
-    if !are_numbered(starts.as_slice(), acquired) {
+    let order = starts.as_slice();
+    if !are_numbered(order, acquired) {
         return Err(CloseError::ConnectionMissing);
     }
-    if !are_reached(starts.as_slice(), slots) {
+    if !are_reached(order, slots) {
         return Err(CloseError::StartLate);
     }
-    if !are_resumed(starts.as_slice(), slots) {
+    if !are_resumed(order, slots) {
         return Err(CloseError::StartEarly);
+    }
+    if !are_kept(order, book, slots) {
+        return Err(CloseError::SlotDiffers);
     }
     Ok(())
 }

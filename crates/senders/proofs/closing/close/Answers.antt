@@ -38,6 +38,7 @@ returns-in_err-compare-clause-refused g c =
     c.count_all.ensures.closing c.book-book.ensures.stands in
     let acquired_is = c.acquisitions.ensures
     ∙ ap (λ (it : ClosingOf). acquisitions it.events) c.count_all.ensures.closing in
+    let slots_are = c.book-book.ensures.slots ∙ ap (λ (it : ClosingOf). it.slots) c.count_all.ensures.closing in
     let seats_are = c.as_slice.ensures.value ∙ c.count_all.ensures.seats in
     let served_are = c.as_slice-2.ensures.value ∙ c.count_all.ensures.served in
     passes_on (RefusedClose g.P.Publishing.checked g.P.Publishing.limit g.P.Ledger.parts c.args.rest.now closing
@@ -46,7 +47,7 @@ returns-in_err-compare-clause-refused g c =
     (refused_as_named g.P.Publishing.checked g.P.Publishing.limit g.P.Ledger.parts c.args.rest.now closing
     c.args.seats.items c.args.served.items c.book-book.result.now c.book-book.ensures.named c.book-book.ensures.limited
     stands c.count_all.ensures.counted c.count_all.ensures.logged c.count_all.ensures.seen c.acquisitions.result
-    acquired_is c.as_slice.result.now c.as_slice-2.result.now c.in_err-compare.field-0.0 seats_are served_are
+    acquired_is slots_are c.as_slice.result.now c.as_slice-2.result.now c.in_err-compare.field-0.0 seats_are served_are
     (c.in_err-compare.ensures.err closing
     (witnessed_as_named g.P.Publishing.checked closing c.acquisitions.result c.args.seats.items c.as_slice.result.now
     c.args.served.items c.as_slice-2.result.now c.book-book.result.now c.book-book.ensures.named stands acquired_is
@@ -70,6 +71,6 @@ returns-clause-ok g c =
     (witnessed_as_named g.P.Publishing.checked closing c.acquisitions.result c.args.seats.items c.as_slice.result.now
     c.args.served.items c.as_slice-2.result.now c.book-book.result.now c.book-book.ensures.named stands acquired_is
     seats_are served_are c.count_all.ensures.logged c.count_all.ensures.witnessed c.count_all.ensures.seen)
-    c.keep_confirmed.new.fresh
+    slots_are c.keep_confirmed.new.fresh
     (subst (λ (slots : List Slot). IsConfirmedAs slots c.compare.new.fresh c.keep_confirmed.new.fresh) slots_are
     c.keep_confirmed.ensures))

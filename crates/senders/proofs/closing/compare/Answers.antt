@@ -50,7 +50,7 @@ returns-clause-err g c closing told =
     c.check_starts.result c.check_starts.ensures.err
 
 pub returns-clause-ok : goal.returns-clause-ok
-returns-clause-ok g c closing told =
+returns-clause-ok g c closing told slots_are =
     closed_compared c.args.book.now c.replay.new.fresh c.args.seats.now c.in_ok-receipts.receipts.items
     c.as_slice.result.now c.as_slice.ensures.value c.in_ok-receipts.ensures.ok c.in_ok-receipts.ensures.long
     c.in_ok-readings.readings.items c.sort_readings.new.readings.items c.as_slice-2.result.now
@@ -58,5 +58,5 @@ returns-clause-ok g c closing told =
     c.in_ok-replay.ensures.ok c.in_ok-replay.ensures.all
     (MatchBool-at_true _ _ c.if-not-branch.false c.in_ok-replay.ensures.right) c.args.acquired c.args.served.now
     c.args.slots c.requires.slots c.if-not-are_whole.ensures closing told
-    c.check_starts.result c.check_starts.ensures.ok
+    c.check_starts.result c.check_starts.ensures.ok slots_are
     c.in_ok-receipts.ensures.forward c.in_ok-receipts.ensures.timed

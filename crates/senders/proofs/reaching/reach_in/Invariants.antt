@@ -1,7 +1,7 @@
 use Rattle.std.proofs.Common.{Bor, map, take}
 use Rattle.senders.specs.Results.{ServedOf}
 use Rattle.senders.proofs.ReachLemmas.{AreReachedTo}
-use Rattle.senders.proofs.reaching.is_reached.Given as goal
+use Rattle.senders.proofs.reaching.reach_in.Given as goal
 
 abbrev pub invariant-loop-one : goal.invariant-loop-one
 invariant-loop-one g l =

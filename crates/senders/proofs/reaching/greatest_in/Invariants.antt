@@ -1,7 +1,7 @@
 use Rattle.std.proofs.Common.{Bor, map, take}
 use Rattle.senders.specs.Results.{ServedOf}
 use Rattle.senders.proofs.ResumeLemmas.{AreResumedTo}
-use Rattle.senders.proofs.reaching.is_resumed.Given as goal
+use Rattle.senders.proofs.reaching.greatest_in.Given as goal
 
 abbrev pub invariant-loop-one : goal.invariant-loop-one
 invariant-loop-one g l =
