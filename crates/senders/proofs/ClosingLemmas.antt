@@ -426,17 +426,17 @@ module _ (checked : CheckedOf) (limit all left : ℕ) (closing : ClosingOf) (sea
     reason f.CountDiffers cause can = ((λ same. cause (long ∙ same)), held_back cause)
     reason f.ReceiptMissing cause can = can
     reason f.ReadingWrong cause can = can
-    reason f.TakenDiffers cause can = record {
-      count = sym long ∙ explained_count book seats cause.order cause.explained;
-      other = subst (λ (log : List CommitOf). ¬ All (IsTaken log) served) log_is cause.other;
-    }
-    reason f.ConnectionMissing cause can = record {
-      before = record {
+    reason f.TakenDiffers cause can = (
+      sym long ∙ explained_count book seats cause.order cause.explained,
+      subst (λ (log : List CommitOf). ¬ All (IsTaken log) served) log_is cause.other,
+    )
+    reason f.ConnectionMissing cause can = (
+      record {
         count = sym long ∙ explained_count book seats cause.order cause.explained;
         taken = subst (λ (log : List CommitOf). All (IsTaken log) served) log_is cause.taken;
-      };
-      missing = subst (λ (n : ℕ). LacksConnection n served) acquired_is cause.missing;
-    }
+      },
+      subst (λ (n : ℕ). LacksConnection n served) acquired_is cause.missing,
+    )
     reason f.StartLate cause can = starts_are (λ slots starts. ¬ AreReached slots starts) cause
     reason f.StartEarly cause can =
         starts_are (λ slots starts. AreReached slots starts × ¬ AreResumed slots starts) cause

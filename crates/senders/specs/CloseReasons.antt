@@ -19,19 +19,8 @@ pub record AreTaken (checked : CheckedOf) (closing : ClosingOf) (seats : List Se
     pub count : length closing.log ≡ length (all_receipts seats)
     pub taken : All (IsTaken (log_seen checked closing.log)) served
 
--- What a connection took is not what the log has from its start on, or stops too early.
-pub record HasOtherCommits (checked : CheckedOf) (closing : ClosingOf) (seats : List SeatOf) (served : List ServedOf)
-    : Type 0 where
-  pub count : length closing.log ≡ length (all_receipts seats)
-  pub other : ¬ All (IsTaken (log_seen checked closing.log)) served
-
--- The numbers of the connections that started a stream are not those of the acquisitions, each once.
-pub record LacksServed (checked : CheckedOf) (closing : ClosingOf) (seats : List SeatOf) (served : List ServedOf)
-    : Type 0 where
-  pub before : AreTaken checked closing seats served
-  pub missing : LacksConnection (acquisitions closing.events) served
-
--- They are, and `so` holds of those connections in their order, for the number of slots.
+-- The numbers of the connections that started a stream are those of the acquisitions, each once, and `so` holds of these
+-- connections in their order, for the number of slots.
 pub record StartsAre (checked : CheckedOf) (closing : ClosingOf) (seats : List SeatOf) (served : List ServedOf)
     (so : ℕ → List ServedOf → Type 0) : Type 0 where
   pub before : AreTaken checked closing seats served
@@ -47,8 +36,10 @@ IsReasonToRefuse checked all left closing seats served CountDiffers =
     (length closing.log ≢ length (all_receipts seats)) × (left + length seats < all)
 IsReasonToRefuse checked all left closing seats served ReceiptMissing = ⊥
 IsReasonToRefuse checked all left closing seats served ReadingWrong = ⊥
-IsReasonToRefuse checked all left closing seats served TakenDiffers = HasOtherCommits checked closing seats served
-IsReasonToRefuse checked all left closing seats served ConnectionMissing = LacksServed checked closing seats served
+IsReasonToRefuse checked all left closing seats served TakenDiffers =
+    (length closing.log ≡ length (all_receipts seats)) × ¬ All (IsTaken (log_seen checked closing.log)) served
+IsReasonToRefuse checked all left closing seats served ConnectionMissing =
+    AreTaken checked closing seats served × LacksConnection (acquisitions closing.events) served
 IsReasonToRefuse checked all left closing seats served StartLate =
     StartsAre checked closing seats served (λ slots starts. ¬ AreReached slots starts)
 IsReasonToRefuse checked all left closing seats served StartEarly =
