@@ -364,8 +364,8 @@ impl<P: Publishing> Publisher<P> {
         self.desk.lock(rt).release(token, slots, slot);
     }
 
-    /// Shows a viewer the log and the events of the slots. What another viewer has seen is a beginning of these. So of
-    /// any two viewers, one has seen all that the other has seen.
+    /// Shows a viewer the log and the events of the slots. What another viewer has seen is a beginning of these. So what
+    /// any two viewers have seen is of one log, and of one list of events.
     pub fn compare<R: Wait>(&self, rt: &R, viewer: &mut Viewer<P>, other: &mut Viewer<P>)
         ensures begins { StartsWith viewer.new.seen other.old.seen }
         ensures events { BeginsWith viewer.new.events other.old.events }

@@ -36,7 +36,7 @@ use Rattle.publisher_desk.specs.Viewers.{ClosingOf, IsSeenIn, log_seen}
 use Rattle.senders.specs.Gathering.{receipts_in, all_receipts, all_readings, numbers_of, IsRisingSeat}
 use Rattle.senders.specs.Histories.{AreInOrder, AreWitnessed, IsLogOfSeats, IsRight}
 use Rattle.senders.specs.Replays.{IsAsLong, IsConfirmedAs, IsUnlikeIn, Replays}
-use Rattle.senders.specs.Reached.{AreKept, AreReached, AreResumed, IsOrder, LacksConnection}
+use Rattle.senders.specs.Reached.{AllEndAsConfirmed, AreReached, AreResumed, IsOrder, LacksConnection}
 use Rattle.senders.specs.Results.{ServedOf}
 use Rattle.senders.specs.Starts.{AreInTime, AreOrdered, IsStartCause}
 use Rattle.senders.specs.TakenCommits.{IsTaken, IsWhole}
@@ -213,7 +213,7 @@ module _ (book fresh : Book) (seats : List SeatOf) (order : List ReceiptOf) (ord
           has_starts (λ slots starts. AreReached slots starts × ¬ AreResumed slots starts) cause
       start_cause f.SlotDiffers cause =
           has_starts (λ slots starts. AreReached slots starts × AreResumed slots starts
-          × ¬ AreKept slots (book_slots book) starts) cause
+          × ¬ AllEndAsConfirmed slots (book_slots book) starts) cause
       start_cause f.OutOfMemory cause = tt
 
       is_closed : AreInTime (length (book_checked book).catalog.subscriptions) (book_slots book) acquired served
@@ -250,7 +250,7 @@ module _ (book fresh : Book) (seats : List SeatOf) (order : List ReceiptOf) (ord
             ordered_starts = subst (λ n. IsOrder n served times.starts) told.count times.ordered;
             reached = times.reached;
             resumed = times.resumed;
-            kept = subst (λ (slots : List Slot). AreKept (length (book_checked book).catalog.subscriptions) slots
+            kept = subst (λ (slots : List Slot). AllEndAsConfirmed (length (book_checked book).catalog.subscriptions) slots
                 times.starts) slots_are times.kept;
           }
 
@@ -442,9 +442,9 @@ module _ (checked : CheckedOf) (limit all left : ℕ) (closing : ClosingOf) (sea
         starts_are (λ slots starts. AreReached slots starts × ¬ AreResumed slots starts) cause
     reason f.SlotDiffers cause can =
         starts_are (λ slots starts. AreReached slots starts × AreResumed slots starts
-        × ¬ AreKept slots closing.slots starts)
+        × ¬ AllEndAsConfirmed slots closing.slots starts)
         (subst (λ (list : List Slot). HasStarts book acquired seats served (λ slots starts. AreReached slots starts
-        × AreResumed slots starts × ¬ AreKept slots list starts)) slots_are cause)
+        × AreResumed slots starts × ¬ AllEndAsConfirmed slots list starts)) slots_are cause)
     reason f.OutOfMemory cause can = tt
 
     pub refused_as_named : (gathered : List SeatOf) (shown : List ServedOf) (error : CloseError) → gathered ≡ seats

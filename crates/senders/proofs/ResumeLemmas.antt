@@ -8,7 +8,7 @@ use Rattle.filter_tree.proofs.Tests.{by_test}
 use Rattle.tables_log.specs.Lsn.{commits_before}
 use Rattle.tables_log.specs.Slots.{confirmed_at}
 use Rattle.tables_log.specs.declared.slots.Slot.{Slot}
-use Rattle.senders.specs.Reached.{AreKept, AreResumed, IsKept, IsResumed}
+use Rattle.senders.specs.Reached.{AllEndAsConfirmed, AreResumed, EndsAsConfirmed, IsResumed}
 use Rattle.senders.specs.Results.{ServedOf}
 use Rattle.senders.specs.Starts.{IsGreatest, IsReach}
 use Rattle.senders.proofs.ReachLemmas.{IsLast, IsPlaced, IsWithin, placed}
@@ -104,7 +104,7 @@ one_slot_more slots order before last slot below = by_test (ltb slot slots)
 module _ (order : List ServedOf) (slots : List Slot) (slot reach greatest position : ℕ)
     (reach_is : IsReach order slot reach) (greatest_is : IsGreatest order slot greatest)
     (is : position ≡ confirmed_at slots slot) where
-  pub kept : commits_before position ≤ reach → greatest ≤ position → IsKept order slots slot
+  pub kept : commits_before position ≤ reach → greatest ≤ position → EndsAsConfirmed order slots slot
   kept far near =
       let same : commits_before position ≡ commits_before (confirmed_at slots slot) = ap commits_before is in
       record {
@@ -114,31 +114,31 @@ module _ (order : List ServedOf) (slots : List Slot) (slot reach greatest positi
       }
 
   -- it is after a commit that is not accounted for
-  pub kept_late : reach < commits_before position → ¬ IsKept order slots slot
+  pub kept_late : reach < commits_before position → ¬ EndsAsConfirmed order slots slot
   kept_late late so =
       let same : commits_before position ≡ commits_before (confirmed_at slots slot) = ap commits_before is in
       reach_is.next (so.reached reach (omega (arith, late, same)))
 
   -- it is before what is reported as confirmed
-  pub kept_early : position < greatest → ¬ IsKept order slots slot
+  pub kept_early : position < greatest → ¬ EndsAsConfirmed order slots slot
   kept_early early so =
       let least = greatest_is.least (confirmed_at slots slot) so.resumed in absurd (omega (arith, least, early, is))
 
   pub kept_so : commits_before position ≤ reach
-      → MatchBool (leb greatest position) (IsKept order slots slot) (¬ IsKept order slots slot)
+      → MatchBool (leb greatest position) (EndsAsConfirmed order slots slot) (¬ EndsAsConfirmed order slots slot)
   unfolding kept kept_early
   kept_so far = by_test (leb greatest position)
-      (λ near. subst (λ (b : Bool). MatchBool b (IsKept order slots slot) (¬ IsKept order slots slot)) (sym near)
+      (λ near. subst (λ (b : Bool). MatchBool b (EndsAsConfirmed order slots slot) (¬ EndsAsConfirmed order slots slot)) (sym near)
       (kept far (leb-true greatest position near)))
-      (λ early. subst (λ (b : Bool). MatchBool b (IsKept order slots slot) (¬ IsKept order slots slot)) (sym early)
+      (λ early. subst (λ (b : Bool). MatchBool b (EndsAsConfirmed order slots slot) (¬ EndsAsConfirmed order slots slot)) (sym early)
       (kept_early (leb-false greatest position early)))
 
-pub one_kept_more : (slots : List Slot) (count : ℕ) (order : List ServedOf) → AreKept count slots order
-    → IsKept order slots count → AreKept (count + 1) slots order
+pub one_kept_more : (slots : List Slot) (count : ℕ) (order : List ServedOf) → AllEndAsConfirmed count slots order
+    → EndsAsConfirmed order slots count → AllEndAsConfirmed (count + 1) slots order
 one_kept_more slots count order before last slot below = by_test (ltb slot count)
     (λ less. before slot (ltb-true slot count less))
     (λ more. let least = ltb-false slot count more in
-    let is : count ≡ slot = omega (arith, least, below) in subst (IsKept order slots) is last)
+    let is : count ≡ slot = omega (arith, least, below) in subst (EndsAsConfirmed order slots) is last)
 
 -- ---- answers
 

@@ -14,7 +14,7 @@ use Rattle.publisher_desk.specs.Seats.{SeatOf}
 use Rattle.publisher_desk.specs.Logged.{RiseTo}
 use Rattle.senders.specs.Gathering.{all_receipts, all_readings, numbers_of, IsRisingSeat}
 use Rattle.senders.specs.Histories.{AreInOrder, IsRight}
-use Rattle.senders.specs.Reached.{AreKept, AreReached, AreResumed, IsOrder, LacksConnection}
+use Rattle.senders.specs.Reached.{AllEndAsConfirmed, AreReached, AreResumed, IsOrder, LacksConnection}
 use Rattle.senders.specs.Results.{ServedOf}
 use Rattle.senders.specs.TakenCommits.{IsTaken}
 use Rattle.senders.specs.declared.close_error.CloseError.{CloseError}
@@ -117,7 +117,7 @@ IsCloseCause book acquired seats served StartEarly =
     HasStarts book acquired seats served (λ slots starts. AreReached slots starts × ¬ AreResumed slots starts)
 IsCloseCause book acquired seats served SlotDiffers =
     HasStarts book acquired seats served (λ slots starts. AreReached slots starts × AreResumed slots starts
-    × ¬ AreKept slots (book_slots book) starts)
+    × ¬ AllEndAsConfirmed slots (book_slots book) starts)
 IsCloseCause book acquired seats served OutOfMemory = Unit {0}
 
 -- A receipt is never missing, and no reading is wrong: the publisher's history ties them to its log, and a seat of

@@ -7,7 +7,7 @@ use Rattle.publisher_desk.specs.Seats.{SeatOf}
 use Rattle.publisher_desk.specs.SlotEvents.{acquisitions}
 use Rattle.publisher_desk.specs.Viewers.{ClosingOf, IsAcceptedLog, IsSeenIn, log_seen}
 use Rattle.senders.specs.Gathering.{all_receipts}
-use Rattle.senders.specs.Reached.{AreKept, AreReached, AreResumed, IsOrder, LacksConnection}
+use Rattle.senders.specs.Reached.{AllEndAsConfirmed, AreReached, AreResumed, IsOrder, LacksConnection}
 use Rattle.senders.specs.Results.{ServedOf}
 use Rattle.senders.specs.TakenCommits.{IsTaken}
 use Rattle.senders.specs.declared.close_error.CloseError.{CloseError}
@@ -46,7 +46,7 @@ IsReasonToRefuse checked all left closing seats served StartEarly =
     StartsAre checked closing seats served (λ slots starts. AreReached slots starts × ¬ AreResumed slots starts)
 IsReasonToRefuse checked all left closing seats served SlotDiffers =
     StartsAre checked closing seats served (λ slots starts. AreReached slots starts × AreResumed slots starts
-    × ¬ AreKept slots closing.slots starts)
+    × ¬ AllEndAsConfirmed slots closing.slots starts)
 IsReasonToRefuse checked all left closing seats served OutOfMemory = Unit {0}
 
 -- The publisher's log has this number of commits at most, each of which was accepted after those before it. It has no

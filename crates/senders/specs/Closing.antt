@@ -14,7 +14,7 @@ use Rattle.publisher_desk.specs.Viewers.{ClosingOf, IsSeenIn}
 use Rattle.publisher_desk.specs.declared.slot_event.SlotEvent.{SlotEvent}
 use Rattle.senders.specs.Gathering.{all_readings}
 use Rattle.senders.specs.Histories.{AreInOrder, IsRight}
-use Rattle.senders.specs.Reached.{AreKept, AreReached, AreResumed, IsOrder}
+use Rattle.senders.specs.Reached.{AllEndAsConfirmed, AreReached, AreResumed, IsOrder}
 use Rattle.senders.specs.Results.{HadStream, ServedOf}
 use Rattle.senders.specs.TakenCommits.{IsTaken}
 
@@ -55,4 +55,4 @@ pub record IsClosed (checked : CheckedOf) (limit : ℕ) (closing : ClosingOf) (s
   pub ordered_starts : IsOrder (acquisitions closing.events) served starts
   pub reached : AreReached (length checked.catalog.subscriptions) starts
   pub resumed : AreResumed (length checked.catalog.subscriptions) starts
-  pub kept : AreKept (length checked.catalog.subscriptions) closing.slots starts
+  pub kept : AllEndAsConfirmed (length checked.catalog.subscriptions) closing.slots starts

@@ -82,10 +82,10 @@ AreResumed slots order = (slot : ℕ) → slot < slots → IsResumed order slot
 
 -- This slot is confirmed up to a position from which a stream may start that no client requests: each commit before the
 -- position is accounted for by a connection of the slot, and none of the slot reports a later position as confirmed.
-pub record IsKept (order : List ServedOf) (slots : List Slot) (slot : ℕ) : Type 0 where
+pub record EndsAsConfirmed (order : List ServedOf) (slots : List Slot) (slot : ℕ) : Type 0 where
   pub reached : (count : ℕ) → count < commits_before (confirmed_at slots slot) → IsAccounted order slot count
   pub resumed : All (λ (other : ServedOf). other.slot ≡ Some slot → other.confirmed ≤ confirmed_at slots slot) order
 
 -- so it is of each of so many slots
-abbrev pub AreKept : ℕ → List Slot → List ServedOf → Type 0
-AreKept count slots order = (slot : ℕ) → slot < count → IsKept order slots slot
+abbrev pub AllEndAsConfirmed : ℕ → List Slot → List ServedOf → Type 0
+AllEndAsConfirmed count slots order = (slot : ℕ) → slot < count → EndsAsConfirmed order slots slot

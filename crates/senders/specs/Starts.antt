@@ -2,7 +2,7 @@
 -- 31.2.1 Replication Slot Management.
 use Rattle.std.specs.Prelude.{◌≡◌, ◌<◌, ◌≤◌, ℕ, List, All, Some}
 use Rattle.tables_log.specs.declared.slots.Slot.{Slot}
-use Rattle.senders.specs.Reached.{AreKept, AreReached, AreResumed, IsAccounted, IsOrder, LacksConnection}
+use Rattle.senders.specs.Reached.{AllEndAsConfirmed, AreReached, AreResumed, IsAccounted, IsOrder, LacksConnection}
 use Rattle.senders.specs.Results.{ServedOf}
 use Rattle.senders.specs.declared.close_error.CloseError.{CloseError}
 use Rattle.senders.specs.declared.close_error.CloseError.TheVariants.{CountDiffers, ReceiptMissing, ReadingWrong, TakenDiffers, ConnectionMissing, StartLate, StartEarly, SlotDiffers, OutOfMemory}
@@ -29,7 +29,7 @@ pub record AreInTime (count : ℕ) (slots : List Slot) (acquired : ℕ) (served 
   pub ordered : IsOrder acquired served starts
   pub reached : AreReached count starts
   pub resumed : AreResumed count starts
-  pub kept : AreKept count slots starts
+  pub kept : AllEndAsConfirmed count slots starts
 
 -- `so` holds of the connections in their order, for this number of slots.
 pub record AreOrdered (count acquired : ℕ) (served : List ServedOf) (so : ℕ → List ServedOf → Type 0) : Type 0 where
@@ -49,5 +49,5 @@ IsStartCause count slots acquired served StartLate =
 IsStartCause count slots acquired served StartEarly =
     AreOrdered count acquired served (λ n starts. AreReached n starts × ¬ AreResumed n starts)
 IsStartCause count slots acquired served SlotDiffers =
-    AreOrdered count acquired served (λ n starts. AreReached n starts × AreResumed n starts × ¬ AreKept n slots starts)
+    AreOrdered count acquired served (λ n starts. AreReached n starts × AreResumed n starts × ¬ AllEndAsConfirmed n slots starts)
 IsStartCause count slots acquired served OutOfMemory = Unit {0}

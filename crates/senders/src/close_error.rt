@@ -27,8 +27,8 @@ pub enum CloseError {
     /// although neither its own client nor an earlier one of the slot requested a later position.
     #[error("a stream started after a commit that no client of its slot confirmed")]
     StartLate,
-    /// A stream started before a position up to which the client of an earlier connection of its slot had confirmed the
-    /// log, so that commits that were confirmed may be sent again.
+    /// A stream started before a position that an earlier connection of its slot reports as confirmed, so that commits
+    /// that were confirmed may be sent again.
     #[error("a stream started before a position that a client of its slot had confirmed")]
     StartEarly,
     /// In the end a slot is confirmed past a commit that was taken for no connection of the slot whose client confirmed

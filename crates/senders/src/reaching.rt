@@ -6,7 +6,7 @@ ghost use Rattle.std.specs.Option.{unwrap_or};
 ghost use Rattle.std.specs.List.{range_with_len};
 ghost use Rattle.std.specs.List.Sorted.{IsNonDecreasingBy, IsPermutation};
 ghost use Rattle.tables_log.specs.BookView.{book_slots};
-ghost use Rattle.senders.specs.Reached.{AreKept, AreReached, AreResumed, IsKept, IsReached, IsResumed, numbers_in, started_in};
+ghost use Rattle.senders.specs.Reached.{AllEndAsConfirmed, AreReached, AreResumed, EndsAsConfirmed, IsReached, IsResumed, numbers_in, started_in};
 ghost use Rattle.senders.specs.Results.{taken_from};
 ghost use Rattle.senders.specs.Starts.{AreInTime, IsGreatest, IsReach, IsStartCause};
 
@@ -169,8 +169,8 @@ fn are_resumed<P: Publishing>(starts: &[&Served<P>], slots: usize) -> bool
 fn is_kept<P: Publishing>(starts: &[&Served<P>], book: &Book, slot: SlotNumber) -> bool
     requires reached { IsReached (map (λ one. one.now) starts.now) slot }
     requires resumed { IsResumed (map (λ one. one.now) starts.now) slot }
-    ensures { MatchBool result (IsKept (map (λ one. one.now) starts.now) (book_slots book.now) slot)
-        (¬ IsKept (map (λ one. one.now) starts.now) (book_slots book.now) slot) }
+    ensures { MatchBool result (EndsAsConfirmed (map (λ one. one.now) starts.now) (book_slots book.now) slot)
+        (¬ EndsAsConfirmed (map (λ one. one.now) starts.now) (book_slots book.now) slot) }
 {
     let Some(reach) = reach_in(starts, slot) else {
         return false;
@@ -186,8 +186,8 @@ fn is_kept<P: Publishing>(starts: &[&Served<P>], book: &Book, slot: SlotNumber) 
 fn are_kept<P: Publishing>(starts: &[&Served<P>], book: &Book, slots: usize) -> bool
     requires reached { AreReached slots (map (λ one. one.now) starts.now) }
     requires resumed { AreResumed slots (map (λ one. one.now) starts.now) }
-    ensures { MatchBool result (AreKept slots (book_slots book.now) (map (λ one. one.now) starts.now))
-        (¬ AreKept slots (book_slots book.now) (map (λ one. one.now) starts.now)) }
+    ensures { MatchBool result (AllEndAsConfirmed slots (book_slots book.now) (map (λ one. one.now) starts.now))
+        (¬ AllEndAsConfirmed slots (book_slots book.now) (map (λ one. one.now) starts.now)) }
 {
     for slot in 0..slots {
         if !is_kept(starts, book, slot) {

@@ -1,6 +1,6 @@
 use Rattle.std.proofs.Common.{Bor, List, map, subst}
 use Rattle.tables_log.specs.BookView.{book_slots}
-use Rattle.senders.specs.Reached.{AreKept, AreReached, AreResumed}
+use Rattle.senders.specs.Reached.{AllEndAsConfirmed, AreReached, AreResumed}
 use Rattle.senders.specs.Results.{ServedOf}
 use Rattle.senders.proofs.ReachLemmas.{in_order}
 use Rattle.senders.proofs.reaching.check_starts.Goals as goal
@@ -40,7 +40,7 @@ returns-then-not-are_kept-clause-err g c = record {
         c.as_slice-order.ensures.value c.if-not-are_reached.ensures,
     subst (λ (list : List (Bor ServedOf)). AreResumed c.args.slots (map (λ (one : Bor ServedOf). one.now) list))
         c.as_slice-order.ensures.value c.if-not-are_resumed.ensures,
-    subst (λ (list : List (Bor ServedOf)). ¬ AreKept c.args.slots (book_slots c.args.book.now)
+    subst (λ (list : List (Bor ServedOf)). ¬ AllEndAsConfirmed c.args.slots (book_slots c.args.book.now)
         (map (λ (one : Bor ServedOf). one.now) list)) c.as_slice-order.ensures.value c.if-not-are_kept.ensures,
   );
 }
@@ -55,6 +55,6 @@ returns-clause-ok g c = record {
       (map (λ (one : Bor ServedOf). one.now) list)) c.as_slice-order.ensures.value c.if-not-are_reached.ensures;
   resumed = subst (λ (list : List (Bor ServedOf)). AreResumed c.args.slots
       (map (λ (one : Bor ServedOf). one.now) list)) c.as_slice-order.ensures.value c.if-not-are_resumed.ensures;
-  kept = subst (λ (list : List (Bor ServedOf)). AreKept c.args.slots (book_slots c.args.book.now)
+  kept = subst (λ (list : List (Bor ServedOf)). AllEndAsConfirmed c.args.slots (book_slots c.args.book.now)
       (map (λ (one : Bor ServedOf). one.now) list)) c.as_slice-order.ensures.value c.if-not-are_kept.ensures;
 }
