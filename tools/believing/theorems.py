@@ -203,7 +203,7 @@ SERVED = Theorem("served", [
     clauses("senders", "serving.rt", "serve"),
     clauses("senders", "connection.rt", "run_all"),
     MADE,
-], most=2100, tokens={
+], most=2150, tokens={
     "frames_in": "the `whole_frames` of bytes, with the limit 65,536",
     **FRAMES,
     **BOOKS,

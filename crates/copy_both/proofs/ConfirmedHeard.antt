@@ -12,7 +12,7 @@ use Rattle.copy_frames.specs.Frames.{fault_in}
 use Rattle.copy_frames.specs.declared.fault.FrameFault.{FrameFault}
 use Rattle.copy_frames.specs.declared.fault.FrameFault.TheVariants as frame
 use Rattle.copy_frames.specs.declared.frame.Frame.{Frame}
-use Rattle.copy_both.specs.ConfirmedFrames.{AreStatuses, AreUnheard, ConfirmationsAreHeard, HasConfirmedAll, HasConfirmedIf, IsStatusBy, IsStop, StopsAt, UnheardAt, confirmed_in, flushed_by}
+use Rattle.copy_both.specs.ConfirmedFrames.{AreStatuses, AreUnheard, ConfirmationsAreHeard, HasConfirmedAll, HasConfirmedIf, IsOfLength, IsStatusBy, IsStop, StopsAt, UnheardAt, confirmed_in, flushed_by}
 use Rattle.copy_both.specs.Ears.{HearLeaves, HearsPiece, answer_in, ear_confirmed, ear_heard, ear_started}
 use Rattle.copy_both.specs.Events.{event_of}
 use Rattle.copy_both.specs.HeardFrames.{BooksOf, HasHeard, IsStartedBy, frames_in, reach_of, sent_then}
@@ -26,7 +26,7 @@ use Rattle.copy_both.specs.declared.event.Event.TheVariants as event
 use Rattle.copy_both.specs.declared.heard.Heard.{Heard}
 use Rattle.copy_both.specs.declared.link_fault.LinkFault.{LinkFault}
 use Rattle.copy_both.specs.declared.link_fault.LinkFault.TheVariants as fault
-use Rattle.copy_both.proofs.FrameRuns.{fault_over, over_by_end}
+use Rattle.copy_both.proofs.FrameRuns.{end_over, fault_over, over_by_end}
 use Rattle.copy_both.proofs.HearingLemmas.{over_stays}
 use Rattle.copy_both.proofs.LinkLemmas.{fault_started, frames_started}
 use Rattle.copy_both.proofs.PiecesHeard.{err_faulty, length_fault, ok_faultless}
@@ -82,6 +82,7 @@ record HeardFront (reach : ℕ) (frames : List Frame) (h last : HearingOf) : Typ
   pub statuses : AreStatuses front
   pub confirmed_is : last.confirmed ≡ max h.confirmed (confirmed_in front)
   pub going : is_over last ≡ false → rest ≡ []
+  pub over : is_over last ≡ true → rest ≢ []
   pub stops : StopsAt last.fault reach rest
 
 module _ (served : ServedFrom) (reach : ℕ) where
@@ -93,9 +94,8 @@ module _ (served : ServedFrom) (reach : ℕ) where
     statuses = tt;
     confirmed_is = omega arith;
     going = λ none. refl;
-    stops = λ ahead.
-        let none : h.fault ≡ None = fault_over h.fault h.heard.ended still in
-        absurd (let no : None ≡ Some fault.StatusAhead = sym none ∙ ahead in cc);
+    over = λ over. absurd (let no : true ≡ false = sym over ∙ still in cc);
+    stops = subst IsOfLength (sym (fault_over h.fault h.heard.ended still)) tt;
   }
 
   stop_here : (frame : Frame) (frames : List Frame) (h next : HearingOf) → next.confirmed ≡ h.confirmed
@@ -110,6 +110,7 @@ module _ (served : ServedFrom) (reach : ℕ) where
         statuses = tt;
         confirmed_is = let kept = ap (λ (x : HearingOf). x.confirmed) last in omega (arith, kept, same);
         going = λ none. absurd (let no : true ≡ false = sym over ∙ (sym (ap is_over last) ∙ none) in cc);
+        over = λ over none. absurd cc;
         stops = subst (λ (x : HearingOf). StopsAt x.fault reach (frame ∷ frames)) (sym last) stops;
       }
 
@@ -125,6 +126,7 @@ module _ (served : ServedFrom) (reach : ℕ) where
     confirmed_is = heard.confirmed_is ∙ ap (λ n. max n (confirmed_in heard.front)) more
         ∙ max_assoc h.confirmed (flushed_by (event_of frame.kind frame.body)) (confirmed_in heard.front);
     going = heard.going;
+    over = heard.over;
     stops = heard.stops;
   }
 
@@ -181,6 +183,7 @@ record ConfirmedFront (reach : ℕ) (frames : List Frame) (last : HearingOf) : T
   pub statuses : AreStatuses front
   pub confirmed_is : last.confirmed ≡ confirmed_in front
   pub going : is_over last ≡ false → rest ≡ []
+  pub over : is_over last ≡ true → rest ≢ []
   pub stops : StopsAt last.fault reach rest
 
 module _ (served : ServedFrom) (was : Option (ℕ × ℕ)) (sent : ℕ) where
@@ -219,6 +222,7 @@ module _ (served : ServedFrom) (sent : ℕ) where
         statuses = on.statuses;
         confirmed_is = let most = on.confirmed_is in omega (arith, most, zero);
         going = on.going;
+        over = on.over;
         stops = on.stops;
       })
   begins_front frame frames h (Refuses refusal) none going zero =
@@ -273,6 +277,7 @@ module _ (served : ServedFrom) (sent : ℕ) where
         confirmed_is = on.confirmed_is ∙ ap (λ n. max n (confirmed_in on.front)) so_far.confirmed_is
             ∙ sym (confirmed_append so_far.others on.front);
         going = on.going;
+        over = on.over;
         stops = on.stops;
       })
 
@@ -315,12 +320,29 @@ goes_by f last heard is none = by_test (is_over last)
     none_over last.fault last.heard.ended good.0 (ap (λ (x : Heard). x.ended) good.1 ∙ none))
     (λ going. going)
 
+-- and something was over where it is answered with an end
+over_by : (f : Option FrameFault) (last : HearingOf) (heard : Heard) → answer_of (then_fault f last) ≡ Ok heard
+    → heard.ended ≢ None → is_over last ≡ true
+over_by f last heard is ended = by_test (is_over last)
+    (λ over. over)
+    (λ going.
+    let total : HearingOf = then_fault f last in
+    let both = ok_faultless total.fault (reported_heard total.heard) heard is in
+    absurd (ended (sym (ap (λ (x : Heard). x.ended) both.1) ∙ still_going f last going)))
+  where
+    still_going : (f : Option FrameFault) (last : HearingOf) → is_over last ≡ false
+        → (then_fault f last).heard.ended ≡ None
+    still_going None last going = end_over last.fault last.heard.ended going
+    still_going (Some f) last going =
+        ap (λ b. (unless_over b last (with_fault (link_fault f) last)).heard.ended) going
+        ∙ end_over last.fault last.heard.ended going
+
 module _ (served : ServedFrom) (was : Option (ℕ × ℕ)) (sent : ℕ) where
   wanted : (o : Option (ℕ × ℕ)) (frames more all : List Frame) (last : HearingOf) (result : Result Heard LinkFault)
       (confirmed : ℕ) → confirmed ≡ last.confirmed → frames ++ more ≡ all
       → ConfirmsFront served was sent o frames last
       → ((reach : ℕ) (rest : List Frame) → StopsAt last.fault reach rest → (is_over last ≡ false → rest ≡ [])
-      → AreUnheard reach (rest ++ more) result)
+      → (is_over last ≡ true → rest ≢ []) → AreUnheard reach (rest ++ more) result)
       → HasConfirmedIf o all (reached served was sent o) result confirmed
   wanted None frames more all last result confirmed same split front unheard = same ∙ front
   wanted (Some s) frames more all last result confirmed same split front unheard = record {
@@ -331,32 +353,33 @@ module _ (served : ServedFrom) (was : Option (ℕ × ℕ)) (sent : ℕ) where
         ∙ ap (λ (x : List Frame). front.first ∷ x) (append_assoc front.front front.rest more);
     statuses = front.statuses;
     confirmed_is = same ∙ front.confirmed_is;
-    unheard = unheard (reached served was sent (Some s)) front.rest front.stops front.going;
+    unheard = unheard (reached served was sent (Some s)) front.rest front.stops front.going front.over;
   }
 
 -- which frames were not heard, by the fault
 unheard_ok : (reach : ℕ) (rest : List Frame) (ended : Option ℕ) → StopsAt None reach rest
-    → (ended ≡ None → rest ≡ []) → UnheardAt reach rest ended
-unheard_ok reach rest None stops going = going refl
-unheard_ok reach rest (Some kind) stops going = stops
+    → (ended ≡ None → rest ≡ []) → (ended ≢ None → rest ≢ []) → UnheardAt reach rest ended
+unheard_ok reach rest None stops going over = going refl
+unheard_ok reach rest (Some kind) stops going over = (over (λ none. cc), stops)
 
 -- a length has a fault
-length_stops : (f : FrameFault) (g : LinkFault) → Some (link_fault f) ≡ Some g → Some g ≢ Some fault.StatusAhead
-length_stops frame.BadLength g same ahead = cc
-length_stops frame.FrameTooLong g same ahead = cc
-length_stops frame.OutOfMemory g same ahead = cc
+length_stops : (f : FrameFault) → IsOfLength (Some (link_fault f))
+length_stops frame.BadLength = tt
+length_stops frame.FrameTooLong = tt
+length_stops frame.OutOfMemory = tt
 
 after_length : (f : Option FrameFault) (last : HearingOf) (g : LinkFault) → is_over last ≡ false
-    → (then_fault f last).fault ≡ Some g → Some g ≢ Some fault.StatusAhead
+    → (then_fault f last).fault ≡ Some g → IsOfLength (Some g)
 after_length None last g going some =
     absurd (let none = fault_over last.fault last.heard.ended going in
     let no : None ≡ Some g = sym none ∙ some in cc)
-after_length (Some f) last g going some = length_stops f g (sym (length_fault f last going) ∙ some)
+after_length (Some f) last g going some =
+    subst IsOfLength (sym (length_fault f last going) ∙ some) (length_stops f)
 
 fault_stops : (f : Option FrameFault) (last : HearingOf) (g : LinkFault) → answer_of (then_fault f last) ≡ Err g
     → (reach : ℕ) (rest : List Frame) → StopsAt last.fault reach rest → (is_over last ≡ false → rest ≡ [])
-    → StopsAt (Some g) reach rest
-fault_stops f last g is reach rest stops going =
+    → (is_over last ≡ true → rest ≢ []) → StopsAt (Some g) reach rest
+fault_stops f last g is reach rest stops going over_too =
     let total : HearingOf = then_fault f last in
     let some : total.fault ≡ Some g = err_faulty total.fault (reported_heard total.heard) g is in
     by_test (is_over last)
@@ -391,7 +414,8 @@ module _ (checked : CheckedOf) (known : BooksOf) (bytes piece : List ℕ) (old n
       → ear_started new ≡ (frames_heard served start some).started
       → ear_confirmed new ≡ (frames_heard served start some).confirmed
       → ((reach : ℕ) (rest : List Frame) → StopsAt (frames_heard served start some).fault reach rest
-      → (is_over (frames_heard served start some) ≡ false → rest ≡ []) → AreUnheard reach (rest ++ left) result)
+      → (is_over (frames_heard served start some) ≡ false → rest ≡ [])
+      → (is_over (frames_heard served start some) ≡ true → rest ≢ []) → AreUnheard reach (rest ++ left) result)
       → Wanted result
   by_some some left split result is same unheard =
       let last : HearingOf = frames_heard served start some in
@@ -409,7 +433,7 @@ module _ (checked : CheckedOf) (known : BooksOf) (bytes piece : List ℕ) (old n
       → Wanted (Err fault.OutOfMemory)
   by_part (count, leaves) =
       by_some (take count frames) (drop count frames) (take-append-drop count frames) (Err fault.OutOfMemory)
-      leaves.started leaves.confirmed (λ reach rest stops going. tt)
+      leaves.started leaves.confirmed (λ reach rest stops going over. tt)
 
   abbrev total : HearingOf
   total = frames_heard served start frames
@@ -420,22 +444,23 @@ module _ (checked : CheckedOf) (known : BooksOf) (bytes piece : List ℕ) (old n
   by_all : Leaves old.session new.session before after (piece_heard old.session before old.frames piece sent)
       → (result : Result Heard LinkFault)
       → ((reach : ℕ) (rest : List Frame) → StopsAt total.fault reach rest
-      → (is_over total ≡ false → rest ≡ []) → AreUnheard reach rest result)
+      → (is_over total ≡ false → rest ≡ []) → (is_over total ≡ true → rest ≢ []) → AreUnheard reach rest result)
       → Wanted result
   by_all leaves result unheard =
       by_some frames [] (append-nil frames) result (leaves.started ∙ fault_started of_length total)
       (leaves.confirmed ∙ fault_confirmed of_length total)
-      (λ reach rest stops going. subst (λ (x : List Frame). AreUnheard reach x result) (sym (append-nil rest))
-      (unheard reach rest stops going))
+      (λ reach rest stops going over. subst (λ (x : List Frame). AreUnheard reach x result) (sym (append-nil rest))
+      (unheard reach rest stops going over))
 
   by_piece : (result : Result Heard LinkFault)
       → Answers (λ heard. heard) reported_fault (answer_of (ear_heard old before piece sent)) result
       → PieceLeaves result old.frames piece sent old.session new.session before after → Wanted result
   by_piece (Ok heard) is left =
-      by_all left (Ok heard) (λ reach rest stops going.
+      by_all left (Ok heard) (λ reach rest stops going over.
       unheard_ok reach rest heard.ended
       (subst (λ (o : Option LinkFault). StopsAt o reach rest) (ok_fault of_length total heard is) stops)
-      (λ none. going (goes_by of_length total heard is none)))
+      (λ none. going (goes_by of_length total heard is none))
+      (λ ended. over (over_by of_length total heard is ended)))
   by_piece (Err fault.OutOfMemory) is left = by_part left
   by_piece (Err fault.StatusAhead) is left =
       by_all left (Err fault.StatusAhead) (fault_stops of_length total fault.StatusAhead is)

@@ -37,16 +37,24 @@ abbrev pub AreStatuses : List Frame → Type 0
 AreStatuses [] = Unit {0}
 AreStatuses (frame ∷ frames) = IsStatusBy (event_of frame.kind frame.body) × AreStatuses frames
 
--- With this fault, or none, a client is heard no further than up to this frame: one that ends the stream, or has the
--- fault, or a status that confirms more than was sent, if that is the fault.
+-- A client is heard no further than up to this frame: it ends the stream, and there is no fault; or it has this fault;
+-- or the fault is StatusAhead, and it is a status after this position.
 abbrev pub IsStop : Option LinkFault → ℕ → Result Event LinkFault → Type 0
 IsStop found sent (Ok (event.Status status)) = (found ≡ Some fault.StatusAhead) × (sent < status.flushed)
 IsStop found sent (Ok (event.End kind)) = found ≡ None
 IsStop found sent (Err f) = found ≡ Some f
 
--- Hearing stopped at the first of these frames. If there are none, all were heard, and a fault is that of a length.
+-- there is no fault, or one that a length may have
+abbrev pub IsOfLength : Option LinkFault → Type 0
+IsOfLength None = Unit {0}
+IsOfLength (Some fault.BadLength) = Unit {0}
+IsOfLength (Some fault.FrameTooLong) = Unit {0}
+IsOfLength (Some fault.OutOfMemory) = Unit {0}
+IsOfLength (Some other) = ⊥
+
+-- Hearing stopped at the first of these frames. If there are none, all were heard.
 abbrev pub StopsAt : Option LinkFault → ℕ → List Frame → Type 0
-StopsAt found sent [] = found ≢ Some fault.StatusAhead
+StopsAt found sent [] = IsOfLength found
 StopsAt found sent (frame ∷ frames) = IsStop found sent (event_of frame.kind frame.body)
 
 -- ---- all frames so far
@@ -69,7 +77,7 @@ HasConfirmedAll (Some started) frames confirmed = ConfirmsAll frames confirmed
 -- these frames were not heard
 abbrev pub UnheardAt : ℕ → List Frame → Option ℕ → Type 0
 UnheardAt reach rest None = rest ≡ []
-UnheardAt reach rest (Some kind) = StopsAt None reach rest
+UnheardAt reach rest (Some kind) = (rest ≢ []) × StopsAt None reach rest
 
 -- If memory was refused, nothing is said of them.
 abbrev pub AreUnheard : ℕ → List Frame → Result Heard LinkFault → Type 0

@@ -1,15 +1,21 @@
 -- Up to where a client confirmed the log, after each piece and at the end.
 use Rattle.std.proofs.Common.{◌≡◌, ◌≢◌, ℕ, ◌≤◌, List, [], ◌∷◌, ◌++◌, refl, sym, ◌∙◌, ap, subst, append-nil}
-use Rattle.std.specs.Prelude.{Option, Some, None, Result, Ok, Err}
+use Rattle.std.specs.Prelude.{Bool, Option, Some, None, Result, Ok, Err}
+use Rattle.copy_frames.specs.Frames.{fault_in}
 use Rattle.copy_frames.specs.declared.frame.Frame.{Frame}
 use Rattle.copy_both.specs.ConfirmedFrames.{AreUnheard, HasConfirmedAll, HasConfirmedIf, StopsAt, UnheardAt}
+use Rattle.copy_both.specs.HeardFrames.{frames_in}
 use Rattle.copy_both.specs.Hearing.{first_sent}
 use Rattle.copy_both.specs.declared.heard.Heard.{Heard}
 use Rattle.copy_both.specs.declared.link_fault.LinkFault.{LinkFault}
 use Rattle.copy_both.specs.declared.link_fault.LinkFault.TheVariants as fault
 use Rattle.copy_both.proofs.ConfirmedHeard.{stops_lower, stops_other}
-use Rattle.senders.specs.Confirming.{ConfirmsBy, ReportsIf, StopsFor}
-use Rattle.senders.specs.Refusing.{fault_by, fault_in}
+use Rattle.senders.specs.Confirming.{ConfirmsBy, FitsEnd, ReportsIf, StopsFor}
+use Rattle.senders.specs.Refusing.{cause_by, fault_by, fault_after}
+use Rattle.senders.specs.Running as running
+use Rattle.senders.specs.Running.{IsEndOf, Memory, Whole, Writing}
+use Rattle.senders.specs.declared.end.End.{End}
+use Rattle.senders.specs.declared.end.End.TheVariants as end
 use Rattle.senders.specs.declared.listener_end.ListenerEnd.{ListenerEnd}
 use Rattle.senders.specs.declared.listener_end.ListenerEnd.TheVariants as listener_end
 
@@ -21,7 +27,8 @@ no_fault_ahead same = let no : None ≡ Some fault.StatusAhead = same in cc
 unheard_ended : (low high : ℕ) (rest : List Frame) (ended : Option ℕ) → UnheardAt high rest ended
     → UnheardAt low rest ended
 unheard_ended low high rest None unheard = unheard
-unheard_ended low high rest (Some kind) unheard = stops_other None low high no_fault_ahead rest unheard
+unheard_ended low high rest (Some kind) unheard =
+    (unheard.0, stops_other None low high no_fault_ahead rest unheard.1)
 
 -- by another position that was sent, which is lower if a status was ahead
 unheard_lower : (low high : ℕ) (rest : List Frame) (heard : Result Heard LinkFault)
@@ -90,8 +97,8 @@ confirms_all (Some s) frames heard confirmed on has =
 
 stops_ended : (first : ℕ) (rest : List Frame) (ended : Option ℕ) → UnheardAt first rest ended
     → StopsAt None first rest
-stops_ended first rest None none = subst (StopsAt None first) (sym none) no_fault_ahead
-stops_ended first rest (Some kind) stops = stops
+stops_ended first rest None none = subst (StopsAt None first) (sym none) tt
+stops_ended first rest (Some kind) stops = stops.1
 
 stops_by : (start : ℕ) (rest : List Frame) (f : LinkFault) → AreUnheard (first_sent start) rest (Err f)
     → StopsFor (Some f) start rest
@@ -104,24 +111,29 @@ stops_by start rest (fault.BadStart state) unheard = unheard
 stops_by start rest fault.Closed unheard = unheard
 
 -- a frame ended it
-pub reports_frame : (started : Option (ℕ × ℕ)) (frames : List Frame) (heard : Heard) (confirmed : ℕ)
-    → ConfirmsBy started frames (Ok heard) confirmed → ReportsIf started frames None confirmed
-reports_frame None frames heard confirmed has = has
-reports_frame (Some s) frames heard confirmed has = record {
-  first = has.first;
-  front = has.front;
-  rest = has.rest;
-  frames_are = has.frames_are;
-  statuses = has.statuses;
-  confirmed_is = has.confirmed_is;
-  stops = stops_ended (first_sent s.1) has.rest heard.ended has.unheard;
-}
+pub reports_frame : (started : Option (ℕ × ℕ)) (bytes : List ℕ) (heard : Heard) (kind confirmed : ℕ)
+    → heard.ended ≡ Some kind → ConfirmsBy started (frames_in bytes) (Ok heard) confirmed
+    → ReportsIf started bytes None confirmed
+reports_frame None bytes heard kind confirmed some has = has
+reports_frame (Some s) bytes heard kind confirmed some has =
+    let unheard : UnheardAt (first_sent s.1) has.rest (Some kind) =
+    subst (UnheardAt (first_sent s.1) has.rest) some has.unheard in
+    record {
+      first = has.first;
+      front = has.front;
+      rest = has.rest;
+      frames_are = has.frames_are;
+      statuses = has.statuses;
+      confirmed_is = has.confirmed_is;
+      stops = unheard.1;
+      whole = λ none sound. absurd (unheard.0 none);
+    }
 
 -- a fault did
-pub reports_fault : (started : Option (ℕ × ℕ)) (frames : List Frame) (f : LinkFault) (confirmed : ℕ)
-    → ConfirmsBy started frames (Err f) confirmed → ReportsIf started frames (Some f) confirmed
-reports_fault None frames f confirmed has = has
-reports_fault (Some s) frames f confirmed has = record {
+pub reports_fault : (started : Option (ℕ × ℕ)) (bytes : List ℕ) (f : LinkFault) (confirmed : ℕ)
+    → ConfirmsBy started (frames_in bytes) (Err f) confirmed → ReportsIf started bytes (Some f) confirmed
+reports_fault None bytes f confirmed has = has
+reports_fault (Some s) bytes f confirmed has = record {
   first = has.first;
   front = has.front;
   rest = has.rest;
@@ -129,20 +141,22 @@ reports_fault (Some s) frames f confirmed has = record {
   statuses = has.statuses;
   confirmed_is = has.confirmed_is;
   stops = stops_by s.1 has.rest f has.unheard;
+  whole = λ none sound. absurd (let no : Some f ≡ None = sound in cc);
 }
 
 -- all frames were heard, and nothing has a fault
-pub reports_all : (started : Option (ℕ × ℕ)) (frames : List Frame) (confirmed : ℕ)
-    → HasConfirmedAll started frames confirmed → ReportsIf started frames None confirmed
-reports_all None frames confirmed has = has
-reports_all (Some s) frames confirmed has = record {
+pub reports_all : (started : Option (ℕ × ℕ)) (bytes : List ℕ) (confirmed : ℕ) → fault_in 65536 bytes ≡ None
+    → HasConfirmedAll started (frames_in bytes) confirmed → ReportsIf started bytes None confirmed
+reports_all None bytes confirmed good has = has
+reports_all (Some s) bytes confirmed good has = record {
   first = has.first;
   front = has.others;
   rest = [];
   frames_are = has.frames_are ∙ ap (λ (x : List Frame). has.first ∷ x) (sym (append-nil has.others));
   statuses = has.statuses;
   confirmed_is = has.confirmed_is;
-  stops = no_fault_ahead;
+  stops = tt;
+  whole = λ none sound. good;
 }
 
 -- the listener that ended with this fault
@@ -152,7 +166,63 @@ fault_end listener_end.SourceEnded f is = absurd cc
 fault_end (listener_end.Frame kind) f is = absurd cc
 fault_end (listener_end.Fault g) f is = let same : g ≡ f = cc in ap (λ (x : LinkFault). listener_end.Fault x) same
 
-pub fault_ended : (why : Option ListenerEnd) (f : LinkFault) → fault_in why ≡ Some f
+pub fault_ended : (why : Option ListenerEnd) (f : LinkFault) → fault_after why ≡ Some f
     → why ≡ Some (listener_end.Fault f)
 fault_ended None f is = absurd cc
 fault_ended (Some why) f is = ap (λ (x : ListenerEnd). Some x) (fault_end why f is)
+
+-- ---- the fault and the end
+
+fits_cause : (ending : ListenerEnd) (f : LinkFault) → cause_by ending ≡ end.Link f → fault_by ending ≡ Some f
+fits_cause listener_end.SourceFailed f same = absurd cc
+fits_cause listener_end.SourceEnded f same = absurd cc
+fits_cause (listener_end.Frame kind) f same = absurd cc
+fits_cause (listener_end.Fault g) f same = let alike : g ≡ f = cc in ap (λ (x : LinkFault). Some x) alike
+
+-- a fault that ended it, other than out of memory, is the listener's
+link_fits : (why : Option ListenerEnd) (failed : Bool) (is : End) (f : LinkFault) → IsEndOf why failed is
+    → is ≡ end.Link f → f ≢ fault.OutOfMemory → fault_after why ≡ Some f
+link_fits why failed is f (Writing same fails) link other = absurd (let no : end.WriteFault ≡ end.Link f = sym same ∙ link in cc)
+link_fits why failed is f (Memory same) link other =
+    absurd (let both : end.Link fault.OutOfMemory ≡ end.Link f = sym same ∙ link in
+    let alike : fault.OutOfMemory ≡ f = cc in other (sym alike))
+link_fits why failed is f (Whole same) link other = absurd (let no : end.Finished ≡ end.Link f = sym same ∙ link in cc)
+link_fits why failed is f (running.Heard ending some same) link other =
+    ap fault_after some ∙ fits_cause ending f (sym same ∙ link)
+
+memory_fits : (why : Option ListenerEnd) (is : End)
+    → (why ≡ Some (listener_end.Fault fault.OutOfMemory) → is ≡ end.Link fault.OutOfMemory)
+    → is ≢ end.Link fault.OutOfMemory → fault_after why ≢ Some fault.OutOfMemory
+memory_fits why is refused other found = other (refused (fault_ended why fault.OutOfMemory found))
+
+fits_link : (f : LinkFault) (found : Option LinkFault) → (f ≢ fault.OutOfMemory → found ≡ Some f)
+    → FitsEnd (end.Link f) found
+fits_link fault.OutOfMemory found fits = tt
+fits_link fault.StatusAhead found fits = fits (λ same. cc)
+fits_link fault.FrameTooLong found fits = fits (λ same. cc)
+fits_link fault.BadLength found fits = fits (λ same. cc)
+fits_link (fault.Unexpected byte) found fits = fits (λ same. cc)
+fits_link (fault.BadStart state) found fits = fits (λ same. cc)
+fits_link fault.Closed found fits = fits (λ same. cc)
+
+-- by both
+fits_by : (is : End) (found : Option LinkFault)
+    → ((f : LinkFault) → is ≡ end.Link f → f ≢ fault.OutOfMemory → found ≡ Some f)
+    → (is ≢ end.Link fault.OutOfMemory → found ≢ Some fault.OutOfMemory) → FitsEnd is found
+fits_by (end.Link f) found link memory = fits_link f found (link f refl)
+fits_by end.ReadFault found link memory = memory (λ same. cc)
+fits_by end.WriteFault found link memory = memory (λ same. cc)
+fits_by end.Client found link memory = memory (λ same. cc)
+fits_by end.Finished found link memory = memory (λ same. cc)
+
+pub stream_fits : (why : Option ListenerEnd) (failed : Bool) (is : End) → IsEndOf why failed is
+    → (why ≡ Some (listener_end.Fault fault.OutOfMemory) → is ≡ end.Link fault.OutOfMemory) → FitsEnd is (fault_after why)
+stream_fits why failed is ends refused =
+    fits_by is (fault_after why) (λ f link other. link_fits why failed is f ends link other)
+    (memory_fits why is refused)
+
+pub listener_fits : (why : ListenerEnd) → FitsEnd (cause_by why) (fault_by why)
+listener_fits listener_end.SourceFailed = λ same. cc
+listener_fits listener_end.SourceEnded = λ same. cc
+listener_fits (listener_end.Frame kind) = λ same. cc
+listener_fits (listener_end.Fault f) = fits_link f (Some f) (λ other. refl)

@@ -325,8 +325,8 @@ module _ (checked : CheckedOf) (was now : ViewerOf) (left now_left : Option (Lis
           ends = subst (GoesOnOrEnds checked (books_seen now) (bytes ++ piece_of middle) new.ear) some one.explained;
           stays = stays_from old.ear middle.ear new.ear pulls.ear one.stays;
           requested = says.each bytes listened;
-          reports = reports_frame (ear_started new.ear) (frames_in (bytes ++ piece_of middle)) heard
-              (ear_confirmed new.ear) (says_of (Ok heard) is bytes listened);
+          reports = reports_frame (ear_started new.ear) (bytes ++ piece_of middle) heard kind (ear_confirmed new.ear)
+              some (says_of (Ok heard) is bytes listened);
           holding = says.holding bytes listened;
         };
   }
@@ -347,7 +347,7 @@ module _ (checked : CheckedOf) (was now : ViewerOf) (left now_left : Option (Lis
           ends = one.explained;
           stays = stays_from old.ear middle.ear new.ear pulls.ear one.stays;
           requested = says.each bytes listened;
-          reports = reports_fault (ear_started new.ear) (frames_in (bytes ++ piece_of middle)) f
+          reports = reports_fault (ear_started new.ear) (bytes ++ piece_of middle) f
               (ear_confirmed new.ear) (says_of (Err f) is bytes listened);
           holding = says.holding bytes listened;
         };
@@ -368,11 +368,11 @@ says_still checked viewer bytes new has =
 
 reports_still : (checked : CheckedOf) (viewer : ViewerOf) (bytes : List ℕ) (new : Listener)
     → HasListened checked viewer bytes new
-    → ReportsIf (ear_started new.ear) (frames_in (bytes ++ [])) None (ear_confirmed new.ear)
+    → ReportsIf (ear_started new.ear) (bytes ++ []) None (ear_confirmed new.ear)
 reports_still checked viewer bytes new has =
-    subst (λ (all : List ℕ). ReportsIf (ear_started new.ear) (frames_in all) None (ear_confirmed new.ear))
+    subst (λ (all : List ℕ). ReportsIf (ear_started new.ear) all None (ear_confirmed new.ear))
     (sym (append-nil bytes))
-    (reports_all (ear_started new.ear) (frames_in bytes) (ear_confirmed new.ear) has.confirmed)
+    (reports_all (ear_started new.ear) bytes (ear_confirmed new.ear) has.heard.good has.confirmed)
 
 stays_same : (old new : Ear) → new ≡ old → StaysStarted old new
 stays_same old new same started is = ap ear_started same ∙ is
@@ -395,7 +395,7 @@ module _ (checked : CheckedOf) (viewer : ViewerOf) (left now_left : Option (List
           ends = ends (bytes ++ []);
           stays = stays_same old.ear new.ear pulls.ear;
           requested = says_still checked viewer bytes new listened;
-          reports = subst (λ (o : Option LinkFault). ReportsIf (ear_started new.ear) (frames_in (bytes ++ [])) o
+          reports = subst (λ (o : Option LinkFault). ReportsIf (ear_started new.ear) (bytes ++ []) o
               (ear_confirmed new.ear)) (sym sound) (reports_still checked viewer bytes new listened);
           holding = listened.holding;
         };

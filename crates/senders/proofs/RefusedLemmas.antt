@@ -12,7 +12,7 @@ use Rattle.copy_both.specs.declared.link_fault.LinkFault.TheVariants as fault
 use Rattle.senders.specs.declared.end.End.{End}
 use Rattle.senders.specs.declared.end.End.TheVariants as end
 use Rattle.senders.specs.declared.outcome.Outcome.{Outcome}
-use Rattle.senders.specs.Confirming.{ReportsIf}
+use Rattle.senders.specs.Confirming.{FitsEnd, ReportsIf}
 use Rattle.senders.specs.Listening.{EndsAt, EndsFor, HasListened}
 use Rattle.senders.specs.Hearing.{HoldsFault}
 use Rattle.senders.specs.Refusing.{AnswersAs, cause_by, fault_by}
@@ -23,7 +23,7 @@ use Rattle.senders.specs.declared.listener_end.ListenerEnd.TheVariants as listen
 use Rattle.senders.specs.declared.listener.Listener.{Listener}
 use Rattle.publisher_desk.specs.Viewers.{SeesMore, ViewerOf, new_viewer}
 use Rattle.senders.proofs.SeenLogs.{books_more, ends_still}
-use Rattle.senders.proofs.ConfirmingLemmas.{fault_end}
+use Rattle.senders.proofs.ConfirmingLemmas.{fault_end, listener_fits}
 use Rattle.senders.proofs.ServingLemmas.{heard_cause}
 
 -- what was written for this end
@@ -66,7 +66,7 @@ module _ (checked : CheckedOf) (bytes : List ℕ) (source_failed source_ended : 
     (failed : Bool) (outcome : Outcome) (is_requested : Bool) (confirmed number : ℕ) (viewer : ViewerOf)
     (unconfirmed : confirmed ≡ 0)
     (faults : (found : LinkFault) → outcome.fault ≡ Some found
-    → HoldsFault checked (books_seen viewer) bytes None found)
+    → HoldsFault checked (books_seen viewer) bytes None found) (fits : FitsEnd outcome.end outcome.fault)
     (no_slot : outcome.slot ≡ None) (no_start : outcome.start ≡ None) (none : outcome.taken.items ≡ []) where
   abbrev known : BooksOf
   known = books_seen viewer
@@ -86,8 +86,9 @@ module _ (checked : CheckedOf) (bytes : List ℕ) (source_failed source_ended : 
     cause = subst (λ (o : Option ℕ). IsEndCause checked known bytes (started_of o outcome.start) source_failed
         source_ended failed outcome.end) (sym no_slot) cause;
     requested = λ slot start some begins says. cc;
-    reports = subst (λ (o : Option ℕ). ReportsIf (started_of o outcome.start) (frames_in bytes) outcome.fault confirmed)
+    reports = subst (λ (o : Option ℕ). ReportsIf (started_of o outcome.start) bytes outcome.fault confirmed)
         (sym no_slot) unconfirmed;
+    fits = fits;
     fault = λ found is. subst (λ (o : Option ℕ). HoldsFault checked known bytes (started_of o outcome.start) found)
         (sym no_slot) (faults found is);
     left = λ slot some sound client. cc;
@@ -119,10 +120,12 @@ served_refused checked was now last left now_left source_failed source_ended bef
       read = at.hears.read;
       served_for = unstarted checked bytes source_failed source_ended before after failed outcome is_requested
           confirmed number last
-          (noted ∙ subst (λ (o : Option (ℕ × ℕ)). ReportsIf o (frames_in bytes) (fault_by why) (ear_confirmed new.ear))
+          (noted ∙ subst (λ (o : Option (ℕ × ℕ)). ReportsIf o bytes (fault_by why) (ear_confirmed new.ear))
           at.started_is all.reports)
           (λ found is. (subst (EndsFor checked known bytes None (ear_refusal new.ear) source_failed source_ended)
           (fault_end why found (sym fault_is ∙ is)) ends).holds)
+          (subst (λ (e : End). FitsEnd e outcome.fault) (sym same)
+          (subst (FitsEnd (cause_by why)) (sym fault_is) (listener_fits why)))
           no_slot no_start none
           (subst (Answered checked known bytes before after failed) (sym same)
           (answered checked known bytes source_failed source_ended before after failed (ear_refusal new.ear) why ends
@@ -141,7 +144,8 @@ served_nothing checked left source_failed source_ended before failed outcome no_
   bytes = [];
   read = Consumes-nil left;
   served_for = unstarted checked [] source_failed source_ended before before failed outcome false 0 0 new_viewer
-      refl (λ found is. absurd (let no : None ≡ Some found = sym sound ∙ is in cc)) no_slot no_start none
+      refl (λ found is. absurd (let no : None ≡ Some found = sym sound ∙ is in cc))
+      (subst (λ (e : End). FitsEnd e outcome.fault) (sym same) tt) no_slot no_start none
       (subst (Answered checked (books_seen new_viewer) [] before before failed) (sym same)
       (record { written = []; put = Appends-nil before; answer = refl }))
       (subst (IsEndCause checked (books_seen new_viewer) [] None source_failed source_ended failed) (sym same) (record {

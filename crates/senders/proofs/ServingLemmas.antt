@@ -19,10 +19,10 @@ use Rattle.publisher_desk.specs.Viewers.{SeesMore, ViewerOf, new_viewer}
 use Rattle.senders.specs.declared.end.End.{End}
 use Rattle.senders.specs.declared.end.End.TheVariants as end
 use Rattle.senders.specs.declared.outcome.Outcome.{Outcome}
-use Rattle.senders.specs.Confirming.{HasReported, ReportsIf}
+use Rattle.senders.specs.Confirming.{FitsEnd, HasReported, ReportsIf}
 use Rattle.senders.specs.Hearing.{HoldsFault}
 use Rattle.senders.specs.Listening.{EndsAt, EndsFor, EndsOf, HasListened, HearsAll, HoldsStream, IsHolding, StartsOn}
-use Rattle.senders.specs.Refusing.{cause_by, fault_by, fault_in}
+use Rattle.senders.specs.Refusing.{cause_by, fault_by, fault_after}
 use Rattle.senders.specs.Running.{Heard, IsEndOf, Memory, Streams, Whole, Writing}
 use Rattle.senders.specs.Serving.{IsEndCause, IsEnded, IsAfterStream, HasClientLeft, IsServed, IsServedFor, IsStream, IsTail, IsWritten, started_of}
 use Rattle.senders.specs.Results.{ServedOf, acquisition, books_seen, commits_of, served_of}
@@ -33,7 +33,7 @@ use Rattle.senders.specs.Speaking as speaking
 use Rattle.senders.specs.declared.listener_end.ListenerEnd.{ListenerEnd}
 use Rattle.senders.specs.declared.listener_end.ListenerEnd.TheVariants as listener_end
 use Rattle.senders.specs.declared.listener.Listener.{Listener}
-use Rattle.senders.proofs.ConfirmingLemmas.{fault_ended, reports_all}
+use Rattle.senders.proofs.ConfirmingLemmas.{fault_ended, reports_all, stream_fits}
 use Rattle.senders.proofs.HearingLemmas.{has_asked}
 use Rattle.senders.proofs.SeenLogs.{asks_still, books_more, ends_still}
 
@@ -69,7 +69,7 @@ record Knows (checked : CheckedOf) (known : BooksOf) (bytes : List ℕ) (slot st
     (why : Option ListenerEnd) (is_requested : Bool) (confirmed : ℕ) : Type 0 where
   asks : AsksFor checked known (frames_in bytes) slot start
   requested : is_requested ≡ true → Requests (frames_in bytes) slot start
-  reports : HasReported (frames_in bytes) start (fault_in why) confirmed
+  reports : HasReported bytes start (fault_after why) confirmed
   response : List ℕ
   ends : (ending : ListenerEnd) → why ≡ Some ending
       → EndsFor checked known bytes (Some (slot, start)) response source_failed source_ended ending
@@ -174,12 +174,14 @@ module _ (checked : CheckedOf) (known : BooksOf) (bytes : List ℕ) (slot start 
             let same_start : start ≡ at = cc in
             subst (λ (s : ℕ). Requests (frames_in bytes) s at) same_slot
             (subst (λ (n : ℕ). Requests (frames_in bytes) slot n) same_start (knows.requested says));
-        reports = subst (λ (o : Option ℕ). ReportsIf (started_of o served.start) (frames_in bytes) served.fault
-            confirmed) (sym streams.slot_is)
-            (subst (λ (o : Option ℕ). ReportsIf (started_of (Some slot) o) (frames_in bytes) served.fault confirmed)
+        reports = subst (λ (o : Option ℕ). ReportsIf (started_of o served.start) bytes served.fault confirmed)
+            (sym streams.slot_is)
+            (subst (λ (o : Option ℕ). ReportsIf (started_of (Some slot) o) bytes served.fault confirmed)
             (sym streams.start_is)
-            (subst (λ (o : Option LinkFault). HasReported (frames_in bytes) start o confirmed) (sym streams.fault_is)
+            (subst (λ (o : Option LinkFault). HasReported bytes start o confirmed) (sym streams.fault_is)
             knows.reports));
+        fits = subst (FitsEnd served.end) (sym streams.fault_is)
+            (stream_fits why sink_failed served.end streams.ends streams.refused);
         fault = λ found is.
             subst (λ (k : BooksOf). HoldsFault checked k bytes (started_of served.slot served.start) found) known_is
             (subst (λ (o : Option ℕ). HoldsFault checked known bytes (started_of o served.start) found)
@@ -215,8 +217,8 @@ module _ (checked : CheckedOf) (now last : ViewerOf) (sees : SeesMore now last) 
   knows_end old new why ends is is_requested confirmed said noted = record {
     asks = asks_last (ear_started new.ear) ends.asks is;
     requested = λ says. ends.requested slot start is (sym said ∙ says);
-    reports = subst (HasReported (frames_in bytes) start (fault_by why)) (sym noted)
-        (subst (λ (o : Option (ℕ × ℕ)). ReportsIf o (frames_in bytes) (fault_by why) (ear_confirmed new.ear)) is
+    reports = subst (HasReported bytes start (fault_by why)) (sym noted)
+        (subst (λ (o : Option (ℕ × ℕ)). ReportsIf o bytes (fault_by why) (ear_confirmed new.ear)) is
         ends.reports);
     response = ear_refusal new.ear;
     ends = λ ending some.
@@ -236,9 +238,9 @@ module _ (checked : CheckedOf) (now last : ViewerOf) (sees : SeesMore now last) 
   knows_on listener has is is_requested confirmed said noted = record {
     asks = asks_last (ear_started listener.ear) (has_asked checked (books_seen now) bytes listener.ear has.heard) is;
     requested = λ says. has.requested slot start is (sym said ∙ says);
-    reports = subst (HasReported (frames_in bytes) start None) (sym noted)
-        (subst (λ (o : Option (ℕ × ℕ)). ReportsIf o (frames_in bytes) None (ear_confirmed listener.ear)) is
-        (reports_all (ear_started listener.ear) (frames_in bytes) (ear_confirmed listener.ear) has.confirmed));
+    reports = subst (HasReported bytes start None) (sym noted)
+        (subst (λ (o : Option (ℕ × ℕ)). ReportsIf o bytes None (ear_confirmed listener.ear)) is
+        (reports_all (ear_started listener.ear) bytes (ear_confirmed listener.ear) has.heard.good has.confirmed));
     response = [];
     ends = λ ending some. cc;
   }

@@ -22,7 +22,7 @@ use Rattle.senders.specs.declared.outcome.Outcome.{Outcome}
 use Rattle.std.proofs.lemmas.List.Elements.{All-nil}
 use Rattle.stream_laws.specs.LayoutRoom.{IsClocked}
 use Rattle.senders.specs.Causes.{chosen, chosen_by, end_by, goes_first, is_refused, unopened_by}
-use Rattle.senders.specs.Refusing.{cause_by, fault_in}
+use Rattle.senders.specs.Refusing.{cause_by, fault_after}
 use Rattle.senders.specs.Running.{Concludes, IsEndOf, IsWithout, Memory, Writing, Whole, Heard, Streams}
 use Rattle.senders.specs.Sending.{Breaks, Follows, GoesOn, Spells, StopsAs, started_telling}
 use Rattle.senders.specs.Results.{commits_of}
@@ -84,11 +84,12 @@ module _ (checked : CheckedOf) (slot start : ℕ) where
       (taken : List CommitOf) (voice : Voice) (why : Option ListenerEnd) (was_failed failed : Bool)
       (served : Outcome) (slot_is : served.slot ≡ Some slot) (start_is : served.start ≡ Some start)
       (taken_is : commits_of served ≡ taken) (ends : IsEndOf why failed served.end)
-      (fault_is : served.fault ≡ fault_in why) where
+      (fault_is : served.fault ≡ fault_after why)
+      (refused : why ≡ Some (listener_end.Fault fault.OutOfMemory) → served.end ≡ end.Link fault.OutOfMemory) where
     after_all : (was now : SenderEnd) → GoesOn opened sent taken voice (started_telling checked slot start copy_both_response)
         → Closes was now why sent last failed → (now ≡ sender_end.OutOfMemory → served.end ≡ end.Client → ⊥)
         → Streams checked slot start before last failed why served
-    after_all was now goes closes refused =
+    after_all was now goes closes unanswered =
         let front : List ℕ = copy_both_response ++ goes.bytes in
         let w : Wrote checked slot start taken front (voice_output voice) =
         wrote taken goes.now goes.bytes (voice_output voice) goes.clocks goes.follows
@@ -117,10 +118,11 @@ module _ (checked : CheckedOf) (slot start : ℕ) where
             front = front;
             list_is = ap (λ (x : List ℕ). front ++ x)
                 (whole_last closes.written closes.rest closes.last closes.bytes (closes.all sound)
-                ∙ answered_by was now why closes.last served.end refused closes.closing client done);
+                ∙ answered_by was now why closes.last served.end unanswered closes.closing client done);
           };
           ends = ends;
           fault_is = fault_is;
+          refused = refused;
         }
 
     after_part : (was now : SenderEnd) → Breaks opened sent taken voice (started_telling checked slot start copy_both_response)
@@ -154,6 +156,7 @@ module _ (checked : CheckedOf) (slot start : ℕ) where
           answered = λ sound client done. absurd (not_left sound client);
           ends = ends;
           fault_is = fault_is;
+          refused = refused;
         }
 
 -- ---- the causes that streams have
@@ -188,6 +191,18 @@ refused_end sender_end.ConnectionEnded is_first why is client = cc
 refused_end sender_end.Finished is_first why is client = cc
 refused_end sender_end.WriteFault is_first why is client = cc
 
+-- out of memory of the listener goes before all else
+memory_goes : (s : SenderEnd) (is_first : Bool)
+    → chosen s is_first (Some (listener_end.Fault fault.OutOfMemory)) ≡ end.Link fault.OutOfMemory
+memory_goes sender_end.ConnectionEnded is_first = refl
+memory_goes sender_end.Finished is_first = refl
+memory_goes sender_end.WriteFault is_first = refl
+memory_goes sender_end.OutOfMemory is_first = refl
+
+memory_first : (s : SenderEnd) (is_first : Bool) (why : Option ListenerEnd) (is : End) → is ≡ chosen s is_first why
+    → why ≡ Some (listener_end.Fault fault.OutOfMemory) → is ≡ end.Link fault.OutOfMemory
+memory_first s is_first why is same some = same ∙ ap (chosen s is_first) some ∙ memory_goes s is_first
+
 not_fault : (was now : SenderEnd) (why : Option ListenerEnd) (last : List ℕ) → (was ≡ sender_end.WriteFault → ⊥)
     → IsClosing was now why last → now ≡ sender_end.WriteFault → ⊥
 not_fault was now why last not (Refused same) is = cc
@@ -214,7 +229,7 @@ ends_by s is_first (Some why) failed is fails same =
 -- ---- all of a stream
 
 module _ (checked : CheckedOf) (slot start : ℕ) (before opened sent last : Option (List ℕ)) (voice : Voice)
-    (why : Option ListenerEnd) (was_failed failed : Bool) (served : Outcome) (fault_is : served.fault ≡ fault_in why) where
+    (why : Option ListenerEnd) (was_failed failed : Bool) (served : Outcome) (fault_is : served.fault ≡ fault_after why) where
   by_stop : (s now : SenderEnd) (is_first : Bool) (taken : List CommitOf) → Appends before opened copy_both_response
       → StopsAs s opened sent taken voice (started_telling checked slot start copy_both_response)
       → (s ≡ sender_end.WriteFault → was_failed ≡ true) → served.slot ≡ Some slot → served.start ≡ Some start
@@ -226,14 +241,14 @@ module _ (checked : CheckedOf) (slot start : ℕ) (before opened sent last : Opt
       start_is taken_is
       (ends_by now is_first why failed served.end
       (λ same. absurd (not_fault sender_end.ConnectionEnded now why says.last (λ no. cc) says.closing same)) end_is)
-      fault_is
+      fault_is (memory_first now is_first why served.end end_is)
       sender_end.ConnectionEnded now stops says (λ same client. refused_end now is_first why same (sym end_is ∙ client))
   by_stop sender_end.Finished now is_first taken put stops fails slot_is start_is taken_is end_is says =
       after_all checked slot start before opened sent last put taken voice why was_failed failed served slot_is
       start_is taken_is
       (ends_by now is_first why failed served.end
       (λ same. absurd (not_fault sender_end.Finished now why says.last (λ no. cc) says.closing same)) end_is)
-      fault_is
+      fault_is (memory_first now is_first why served.end end_is)
       sender_end.Finished now stops says (λ same client. refused_end now is_first why same (sym end_is ∙ client))
   by_stop sender_end.WriteFault now is_first taken put stops fails slot_is start_is taken_is end_is says =
       let failing : failed ≡ true = says.same ∙ fails refl in
@@ -242,7 +257,7 @@ module _ (checked : CheckedOf) (slot start : ℕ) (before opened sent last : Opt
       after_part checked slot start before opened sent last put taken voice why was_failed failed served slot_is
       start_is taken_is
       (ends_by sender_end.WriteFault is_first why failed served.end (λ same. failing) is)
-      fault_is sender_end.WriteFault now stops says
+      fault_is (memory_first now is_first why served.end end_is) sender_end.WriteFault now stops says
       (λ sound. cc)
       (λ finished. unfinished sender_end.WriteFault is_first why (λ no. cc) (sym is ∙ finished)) (λ sound client. cc)
   by_stop sender_end.OutOfMemory now is_first taken put stops fails slot_is start_is taken_is end_is says =
@@ -251,7 +266,7 @@ module _ (checked : CheckedOf) (slot start : ℕ) (before opened sent last : Opt
       after_part checked slot start before opened sent last put taken voice why was_failed failed served slot_is
       start_is taken_is
       (ends_by sender_end.OutOfMemory is_first why failed served.end (λ no. cc) is)
-      fault_is sender_end.OutOfMemory now stops.breaks says
+      fault_is (memory_first now is_first why served.end end_is) sender_end.OutOfMemory now stops.breaks says
       (λ sound. stops.none)
       (λ finished. unfinished sender_end.OutOfMemory is_first why (λ no. cc) (sym is ∙ finished))
       (λ sound client. refused_end sender_end.OutOfMemory is_first why refl (sym is ∙ client))
@@ -276,12 +291,15 @@ streams_to_its_end checked slot start before opened sent last voice old_voice wh
 
 module _ (checked : CheckedOf) (slot start : ℕ) (before last : Option (List ℕ)) (failed : Bool) (why : Option ListenerEnd)
     (served : Outcome) where
+  abbrev Refuses : Type 0
+  Refuses = why ≡ Some (listener_end.Fault fault.OutOfMemory) → served.end ≡ end.Link fault.OutOfMemory
+
   without : (written rest : List ℕ) → Appends before last written → written ++ rest ≡ copy_both_response
       → served.slot ≡ Some slot → served.start ≡ Some start → served.taken.items ≡ []
       → (failed ≡ false → served.end ≢ end.Link fault.OutOfMemory → rest ≡ []) → (served.end ≡ end.Finished → ⊥)
-      → (failed ≡ false → served.end ≡ end.Client → ⊥) → IsEndOf why failed served.end → served.fault ≡ fault_in why
+      → (failed ≡ false → served.end ≡ end.Client → ⊥) → IsEndOf why failed served.end → served.fault ≡ fault_after why → Refuses
       → Streams checked slot start before last failed why served
-  without written rest put bytes slot_is start_is none all not not_left ends fault_is =
+  without written rest put bytes slot_is start_is none all not not_left ends fault_is refused =
       let no_commits : commits_of served ≡ [] = ap (map (λ commit. arc_value commit)) none in
       record {
         slot_is = slot_is;
@@ -301,46 +319,52 @@ module _ (checked : CheckedOf) (slot start : ℕ) (before last : Option (List �
         answered = λ sound client done. absurd (not_left sound client);
         ends = ends;
         fault_is = fault_is;
+        refused = refused;
       }
 
-  not_opened : (is : End) → WritesPart before last failed → IsWithout slot start (fault_in why) is served
-      → (is ≡ end.Finished → ⊥) → IsEndOf why failed served.end
+  not_opened : (is : End) → WritesPart before last failed → IsWithout slot start (fault_after why) is served
+      → (is ≡ end.Finished → ⊥) → IsEndOf why failed served.end → Refuses
       → Streams checked slot start before last failed why served
-  not_opened is fails without_it not ends =
+  not_opened is fails without_it not ends refused =
       without fails.written fails.rest fails.put fails.bytes without_it.slot_is without_it.start_is without_it.none
       (λ sound memory. cc) (λ finished. not (sym without_it.end_is ∙ finished)) (λ sound client. cc) ends
-      without_it.fault_is
+      without_it.fault_is refused
 
-  starved : Appends before last [] → IsWithout slot start (fault_in why) (end.Link fault.OutOfMemory) served
+  starved : Appends before last [] → IsWithout slot start (fault_after why) (end.Link fault.OutOfMemory) served
       → Streams checked slot start before last failed why served
   starved put is =
       without [] copy_both_response put refl is.slot_is is.start_is is.none
       (λ sound memory. absurd (memory is.end_is)) (λ finished. cc) (λ sound client. cc) (Memory is.end_is)
-      is.fault_is
+      is.fault_is (λ some. is.end_is)
 
-  pub streams_not : (s : SenderEnd) → FailsToOpen before last failed s
-      → IsWithout slot start (fault_in why) (end_by s) served
+  -- it was not heard any further
+  pub streams_not : (s : SenderEnd) → why ≡ None → FailsToOpen before last failed s
+      → IsWithout slot start (fault_after why) (end_by s) served
       → Streams checked slot start before last failed why served
-  streams_not sender_end.ConnectionEnded fails is = absurd fails
-  streams_not sender_end.Finished fails is = absurd fails
-  streams_not sender_end.WriteFault fails is =
+  streams_not sender_end.ConnectionEnded none fails is = absurd fails
+  streams_not sender_end.Finished none fails is = absurd fails
+  streams_not sender_end.WriteFault none fails is =
       not_opened end.WriteFault fails is (λ finished. cc) (Writing is.end_is fails.fails)
-  streams_not sender_end.OutOfMemory fails is = starved fails is
+      (λ some. absurd (let no : None ≡ Some (listener_end.Fault fault.OutOfMemory) = sym none ∙ some in cc))
+  streams_not sender_end.OutOfMemory none fails is = starved fails is
 
   -- the client had ended it
   pub streams_ended : (s : SenderEnd) (ending : ListenerEnd) → why ≡ Some ending → FailsToOpen before last failed s
-      → IsWithout slot start (fault_in why) (unopened_by s ending) served
+      → IsWithout slot start (fault_after why) (unopened_by s ending) served
       → Streams checked slot start before last failed why served
   streams_ended sender_end.ConnectionEnded ending some fails is = absurd fails
   streams_ended sender_end.Finished ending some fails is = absurd fails
   streams_ended sender_end.WriteFault ending some fails is =
       not_opened (cause_by ending) fails is (heard_unfinished ending) (Heard ending some is.end_is)
+      (λ out. let both : Some ending ≡ Some (listener_end.Fault fault.OutOfMemory) = sym some ∙ out in
+      let same : ending ≡ listener_end.Fault fault.OutOfMemory = cc in is.end_is ∙ ap cause_by same)
   streams_ended sender_end.OutOfMemory ending some fails is = starved fails is
 
   -- no thread could be started
   pub streams_no_further : Appends before last copy_both_response
-      → IsWithout slot start (fault_in why) (end.Link fault.OutOfMemory) served
+      → IsWithout slot start (fault_after why) (end.Link fault.OutOfMemory) served
       → Streams checked slot start before last failed why served
   streams_no_further put is =
       without copy_both_response [] put (append-nil copy_both_response) is.slot_is is.start_is is.none
       (λ sound memory. refl) (λ finished. cc) (λ sound client. cc) (Memory is.end_is) is.fault_is
+      (λ some. is.end_is)

@@ -148,7 +148,7 @@ pub record EndsOf (checked : CheckedOf) (viewer : ViewerOf) (bytes : List ℕ) (
   pub ends : EndsFor checked (books_seen viewer) bytes (ear_started new.ear) (ear_refusal new.ear) failed ended why
   pub stays : StaysStarted old.ear new.ear
   pub requested : SaysRequested bytes new
-  pub reports : ReportsIf (ear_started new.ear) (frames_in bytes) (fault_by why) (ear_confirmed new.ear)
+  pub reports : ReportsIf (ear_started new.ear) bytes (fault_by why) (ear_confirmed new.ear)
   pub holding : IsHolding viewer new
 
 -- More bytes were read and heard, and the listener ended.

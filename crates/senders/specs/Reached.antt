@@ -1,6 +1,6 @@
--- That no stream started after commits of the log that no client of its slot confirmed, or before a position that one
--- confirmed, and that in the end no slot is confirmed up to such a position: PostgreSQL 15, "Logical Replication",
--- 31.2.1 Replication Slot Management.
+-- That no stream started after commits of the log that no client of its slot confirmed or asked to pass over, or before
+-- a position that one confirmed, and that in the end each slot is confirmed so that one could start there: PostgreSQL
+-- 15, "Logical Replication", 31.2.1 Replication Slot Management.
 use Rattle.std.specs.Prelude.{◌≡◌, ◌≢◌, ◌<◌, ◌≤◌, ℕ, true, List, [], ◌∷◌, ◌++◌, All, Contains, map, unwrap_or, Option, Some, None}
 use Rattle.std.specs.List.{range_with_len}
 use Rattle.std.specs.List.Sorted.{IsPermutation, IsNonDecreasingBy}
@@ -80,8 +80,8 @@ AreResumed slots order = (slot : ℕ) → slot < slots → IsResumed order slot
 
 -- ---- the positions up to which slots are confirmed in the end
 
--- This slot is confirmed up to a position from which a stream may start that no client requests: each commit before the
--- position is accounted for by a connection of the slot, and none of the slot reports a later position as confirmed.
+-- It is as if a stream without a request started where this slot is confirmed: each commit before that position is
+-- accounted for by a connection of the slot, and none of the slot reports a later position as confirmed.
 pub record EndsAsConfirmed (order : List ServedOf) (slots : List Slot) (slot : ℕ) : Type 0 where
   pub reached : (count : ℕ) → count < commits_before (confirmed_at slots slot) → IsAccounted order slot count
   pub resumed : All (λ (other : ServedOf). other.slot ≡ Some slot → other.confirmed ≤ confirmed_at slots slot) order

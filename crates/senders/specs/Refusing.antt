@@ -36,6 +36,6 @@ fault_by listener_end.SourceFailed = None
 fault_by listener_end.SourceEnded = None
 fault_by (listener_end.Frame kind) = None
 
-abbrev pub fault_in : Option ListenerEnd → Option LinkFault
-fault_in None = None
-fault_in (Some why) = fault_by why
+abbrev pub fault_after : Option ListenerEnd → Option LinkFault
+fault_after None = None
+fault_after (Some why) = fault_by why

@@ -19,7 +19,7 @@ use Rattle.publisher_desk.specs.Viewers.{HasReleased, SeesMore, ViewerOf, new_vi
 use Rattle.stream_laws.specs.LayoutRoom.{IsClocked}
 use Rattle.senders.specs.Causes.{chosen}
 use Rattle.senders.specs.Listening.{EndsAt, HearsAll, StartsOn}
-use Rattle.senders.specs.Refusing.{AnswersAs, cause_by, fault_by, fault_in}
+use Rattle.senders.specs.Refusing.{AnswersAs, cause_by, fault_by, fault_after}
 use Rattle.senders.specs.Results.{commits_of}
 use Rattle.senders.specs.Sending.{TakesLogged}
 use Rattle.senders.specs.Serving.{IsTail}
@@ -46,7 +46,7 @@ pub record Concludes (slot start : ℕ) (sent : Sent) (why : Option ListenerEnd)
   pub taken_is : outcome.taken ≡ sent.taken
   pub stop : SenderEnd
   pub end_is : outcome.end ≡ chosen stop sent.is_first why
-  pub fault_is : outcome.fault ≡ fault_in why
+  pub fault_is : outcome.fault ≡ fault_after why
   pub says : SaysLast sent.stop stop why before after was_failed failed
 
 -- the sink failed, memory was refused, all was taken up, or the listener ended so
@@ -77,7 +77,8 @@ pub record Streams (checked : CheckedOf) (slot start : ℕ) (before after : Opti
   pub answered : failed ≡ false → outcome.end ≡ end.Client → why ≡ Some (listener_end.Frame 99)
       → IsTail copy_done written
   pub ends : IsEndOf why failed outcome.end
-  pub fault_is : outcome.fault ≡ fault_in why
+  pub fault_is : outcome.fault ≡ fault_after why
+  pub refused : why ≡ Some (listener_end.Fault fault.OutOfMemory) → outcome.end ≡ end.Link fault.OutOfMemory
 
 -- It was heard meanwhile.
 pub record RunsOn (checked : CheckedOf) (was now : ViewerOf) (slot start : ℕ) (left now_left : Option (List ℕ))

@@ -17,7 +17,7 @@ use Rattle.copy_both.specs.declared.link_fault.LinkFault.TheVariants as fault
 use Rattle.copy_both.specs.declared.sql_state.SqlState.{SqlState}
 use Rattle.senders.specs.declared.end.End.{End}
 use Rattle.senders.specs.declared.end.End.TheVariants as end
-use Rattle.senders.specs.Confirming.{ReportsIf}
+use Rattle.senders.specs.Confirming.{FitsEnd, ReportsIf}
 use Rattle.senders.specs.Results.{ServedOf, books_seen}
 use Rattle.stream_laws.specs.LayoutRoom.{IsClocked}
 use Rattle.senders.specs.Hearing.{HoldsFault}
@@ -116,8 +116,8 @@ pub data HasClientLeft (source_ended : Bool) (frames : List Frame) (written : Li
 
 -- What came of a connection from which these bytes were read. Starts and refusals are those of a book that the
 -- publisher has had. If it says that its client requested the position where the stream starts, the first frame does.
--- It says up to where its client confirmed the log by its statuses. If it says that what the client sent has a fault,
--- the bytes have it.
+-- It reports the greatest position that the statuses that were heard confirm. If it reports a fault of what the client
+-- sent, other than out of memory, the bytes have it, and a fault that is reported as the end is that one.
 pub record IsServedFor (checked : CheckedOf) (bytes : List ℕ) (source_failed source_ended : Bool)
     (before after : Option (List ℕ)) (sink_failed : Bool) (served : ServedOf) : Type 0 where
   pub written : List ℕ
@@ -128,9 +128,10 @@ pub record IsServedFor (checked : CheckedOf) (bytes : List ℕ) (source_failed s
       source_ended sink_failed served.end
   pub requested : (slot start : ℕ) → served.slot ≡ Some slot → served.start ≡ Some start
       → served.is_requested ≡ true → Requests (frames_in bytes) slot start
-  pub reports : ReportsIf (started_of served.slot served.start) (frames_in bytes) served.fault served.confirmed
+  pub reports : ReportsIf (started_of served.slot served.start) bytes served.fault served.confirmed
   pub fault : (found : LinkFault) → served.fault ≡ Some found
       → HoldsFault checked (books_seen served.viewer) bytes (started_of served.slot served.start) found
+  pub fits : FitsEnd served.end served.fault
   pub left : (slot : ℕ) → served.slot ≡ Some slot → sink_failed ≡ false → served.end ≡ end.Client
       → HasClientLeft source_ended (frames_in bytes) written
 

@@ -123,8 +123,8 @@ fn without_commits(
 }
 
 /// The fault of what the client sent, if that ended its listener.
-fn fault_in(why: Option<ListenerEnd>) -> Option<LinkFault>
-    ensures { result ≡ refusing.fault_in why }
+fn fault_after(why: Option<ListenerEnd>) -> Option<LinkFault>
+    ensures { result ≡ refusing.fault_after why }
 {
     fault_of(why?)
 }
@@ -160,7 +160,7 @@ fn conclude<W: Sink>(
         start: Some(started.start.to_u64()),
         taken: sent.taken,
         end,
-        fault: fault_in(why),
+        fault: fault_after(why),
     }
 }
 

@@ -9,6 +9,6 @@ returns g c = record {
   taken_is = refl;
   stop = c.say_last-stop.result;
   end_is = c.reported_cause-end.ensures;
-  fault_is = c.fault_in.ensures;
+  fault_is = c.fault_after.ensures;
   says = c.say_last-stop.ensures;
 }

@@ -1,4 +1,4 @@
-use Rattle.std.proofs.Common.{ap, subst, sym}
+use Rattle.std.proofs.Common.{ap, refl, subst, sym}
 use Rattle.std.specs.Prelude.{None, map}
 use Rattle.std.specs.Arc.{arc_value}
 use Rattle.copy_frames.specs.Contents.{copy_both_response}
@@ -19,7 +19,7 @@ returns-in-Err-clause-runs g c = record {
   hears = hears_nothing g.P.Publishing.checked c.args.viewer.now (g.S.Source.left c.args.reader.now) c.args.listener.now;
   streams = streams_not g.P.Publishing.checked c.args.started.0 c.args.started.1 (g.W.Sink.taken c.args.writer.now)
       (g.W.Sink.taken c.open.new.writer) (g.W.Sink.has_failed c.open.new.writer) None
-      c.without_commits-outcome.result c.in-Err.stop c.in-Err.ensures.err
+      c.without_commits-outcome.result c.in-Err.stop refl c.in-Err.ensures.err
       (subst (λ (is : End). IsWithout c.args.started.0 c.args.started.1 None is c.without_commits-outcome.result) c.end_of.ensures
       c.without_commits-outcome.ensures);
 }
