@@ -16,6 +16,7 @@ pub mod OrderLemmas
 pub mod PiecesHeard
 pub mod QuietLemmas
 pub mod QuotedLoops
+pub mod RaisedSlots
 pub mod RefusalLemmas
 pub mod RefusedStarts
 pub mod RepliesLemmas

@@ -62,7 +62,7 @@ start_found slots number other (Some slot) at = by_test (other == number)
     ∙ sym (here_was slots number other slot at here))
     (λ beside. beside_stays slots number other (with_stream true slot) beside)
 
-start_stays : (slots : List Slot) (number other : ℕ)
+pub start_stays : (slots : List Slot) (number other : ℕ)
     → confirmed_at (started slots number) other ≡ confirmed_at slots other
 start_stays slots number other = start_found slots number other (slice_get slots number) refl
 
