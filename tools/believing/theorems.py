@@ -203,7 +203,7 @@ SERVED = Theorem("served", [
     clauses("senders", "serving.rt", "serve"),
     clauses("senders", "connection.rt", "run_all"),
     MADE,
-], most=2150, tokens={
+], most=2200, tokens={
     "frames_in": "the `whole_frames` of bytes, with the limit 65,536",
     **FRAMES,
     **BOOKS,
@@ -222,7 +222,7 @@ SESSIONS = Theorem("sessions", [
     clauses("publisher_desk", "publisher.rt", "with_slots"),
     clauses("publisher_desk", "publisher.rt", "compare"),
     clauses("publisher_desk", "publisher.rt", "compare_seat"),
-], most=1550, tokens={
+], most=1600, tokens={
     "OwnsHeld": "that the number by which a `Viewer` acquired its slot is among its own, from which `release` is proved",
     **BOOKS,
     "book_limit": LIMIT,
@@ -237,11 +237,11 @@ CLOSED = Theorem("closed", [
     clauses("senders", "served.rt", "check", "seen"),
     clauses("senders", "served.rt", "compare", "apart"),
     clauses("publisher_desk", "closing.rt", "check_seat", "seen"),
-    clauses("publisher_desk", "closing.rt", "book", "used"),
+    clauses("publisher_desk", "closing.rt", "book", "used", "confirmed", "turns"),
     clauses("publisher_desk", "closing.rt", "count", "counted"),
     clauses("senders", "laws.rt", "closed_publishers_were_followed"),
     MADE,
-], most=2400, tokens={
+], most=2500, tokens={
     **HANDED,
     **FRAMES,
     **BOOKS,

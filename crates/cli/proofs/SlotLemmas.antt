@@ -5,11 +5,13 @@ use mathlib.Core.Logic.{dite}
 use native.Mathlib.Decide.{ℕ_discrete}
 use Rattle.tables_log.specs.BookView.{book_slots}
 use Rattle.tables_log.specs.Committing.{ChangesSlots}
-use Rattle.tables_log.specs.Slots.{KeepsUse, released, start_fault, started, with_use}
+use Rattle.tables_log.specs.Slots.{KeepsUse, confirmed_at, released, start_fault, started, with_use}
 use Rattle.tables_log.specs.declared.book.Book.{Book}
 use Rattle.tables_log.specs.declared.slots.Slot.{Slot}
 use Rattle.tables_log.proofs.SlotUses.{released_uses, started_uses}
 use Rattle.copy_both.proofs.StartBounds.{IsStartable, faultless_start}
+use Rattle.publisher_desk.specs.SlotEvents.{KeepsConfirmed}
+use Rattle.publisher_desk.proofs.PositionLemmas.{released_stays, started_stays}
 
 pub to_its_own : (before after : Book) (slots : List Slot) → ChangesSlots before after slots
     → ChangesSlots before after (book_slots after)
@@ -76,3 +78,23 @@ kept_uses before after slots changes same =
 pub then_uses : (before mid after : Book) → KeepsUse (book_slots before) (book_slots mid)
     → KeepsUse (book_slots mid) (book_slots after) → KeepsUse (book_slots before) (book_slots after)
 then_uses before mid after first second used are = second used (first used are)
+
+-- ---- up to where slots are confirmed
+
+pub kept_confirmed : (before after : Book) → ChangesSlots before after (book_slots before)
+    → KeepsConfirmed (book_slots before) (book_slots after)
+kept_confirmed before after kept number = ap (λ (slots : List Slot). confirmed_at slots number) kept.slots_are
+
+pub then_confirmed : (before mid after : Book) → KeepsConfirmed (book_slots before) (book_slots mid)
+    → KeepsConfirmed (book_slots mid) (book_slots after) → KeepsConfirmed (book_slots before) (book_slots after)
+then_confirmed before mid after first second number = second number ∙ first number
+
+-- a slot is confirmed as before after a stream has acquired and released it
+pub looked_confirmed : (before mid after : Book) (slot : ℕ) → ChangesSlots before mid (started (book_slots before) slot)
+    → ChangesSlots mid after (released (book_slots mid) slot)
+    → KeepsConfirmed (book_slots before) (book_slots after)
+looked_confirmed before mid after slot starts releases number =
+    ap (λ (slots : List Slot). confirmed_at slots number) releases.slots_are
+    ∙ (released_stays (book_slots mid) slot number
+    ∙ (ap (λ (slots : List Slot). confirmed_at slots number) starts.slots_are
+    ∙ started_stays (book_slots before) slot number))

@@ -28,15 +28,16 @@ use Rattle.publisher_desk.specs.Held.{IsLogOf, AddsEntry, AreEventsOf, IsBookOf,
 use Rattle.publisher_desk.specs.Logged.{IsHistoryOf, Refuses}
 use Rattle.publisher_desk.specs.Receipts.{ReceiptOf, receipt_of, transactions_of}
 use Rattle.publisher_desk.specs.Sights.{AddsTo, Sees, view_of}
-use Rattle.publisher_desk.specs.SlotEvents.{AreDated, use_after}
+use Rattle.publisher_desk.specs.SlotEvents.{AreConfirmed, AreDated, KeepsConfirmed, confirmed_after, use_after}
 use Rattle.publisher_desk.specs.SlotSights.{slot_view}
 use Rattle.publisher_desk.specs.declared.sight.Sight.{Sight}
 use Rattle.publisher_desk.specs.declared.sight.HistoryView.{HistoryView}
 use Rattle.publisher_desk.specs.declared.connection_state.ConnectionState.{ConnectionState}
 use Rattle.publisher_desk.specs.declared.slot_event.SlotEvent.{SlotEvent}
-use Rattle.publisher_desk.specs.declared.slot_event.SlotEvent.TheVariants.{Acquired, Released}
+use Rattle.publisher_desk.specs.declared.slot_event.SlotEvent.TheVariants.{Acquired, Confirmed, Released}
 use Rattle.publisher_desk.specs.declared.slot_sight.SlotView.{SlotView}
 use Rattle.tables_log.proofs.SlotUses.{new_unused}
+use Rattle.publisher_desk.proofs.PositionLemmas.{new_unconfirmed}
 
 sent_longer : (connections : List ConnectionState) (commits more : ℕ) → commits ≤ more
     → All (λ (connection : ConnectionState). connection.sent ≤ end_lsn_of commits) connections
@@ -48,6 +49,8 @@ dated_longer : (commits more : ℕ) → commits ≤ more → (events : List Slot
     → AreDated more events
 dated_longer commits more longer [] dated = tt
 dated_longer commits more longer (Acquired one ∷ events) dated =
+    (tt, dated_longer commits more longer events dated.1)
+dated_longer commits more longer (Confirmed one ∷ events) dated =
     (tt, dated_longer commits more longer events dated.1)
 dated_longer commits more longer (Released one ∷ events) dated =
     let low = dated.0 in (omega (arith, low, longer), dated_longer commits more longer events dated.1)
@@ -84,6 +87,8 @@ new_held one checked book limit most total count idle connections history events
       history_is = subst (IsHistoryOf book) (sym empty) (record { stands = stands; idle = refl });
       events_are = subst (AreEventsOf book) (sym eventless) (record {
         used = new_unused book one limit new;
+        confirmed = λ number. new_unconfirmed book one limit new number;
+        turns = tt;
         dated = tt;
         idle = refl;
       });
@@ -112,6 +117,8 @@ commit_held checked limit old new commands time number total more connections hi
       history_is = of_new;
       events_are = record {
         used = subst (AreInUse (use_after events.all)) (sym commits.slots) held.events_are.used;
+        confirmed = subst (AreConfirmed (confirmed_after events.all)) (sym commits.slots) held.events_are.confirmed;
+        turns = held.events_are.turns;
         dated = dated_longer (length (book_log old)) (length (book_log new)) (omega (arith, count)) events.all
             held.events_are.dated;
         idle = held.events_are.idle;
@@ -148,9 +155,13 @@ dated_same old new slots changes events dated =
     subst (λ (n : ℕ). AreDated n events) (sym (ap length changes.log)) dated
 
 pub kept_events : (old new : Book) (slots : List Slot) (events : SlotView) → ChangesSlots old new slots
-    → KeepsUse (book_slots old) slots → AreEventsOf old events → AreEventsOf new events
-kept_events old new slots events changes keeps are = record {
+    → KeepsUse (book_slots old) slots → KeepsConfirmed (book_slots old) slots → AreEventsOf old events
+    → AreEventsOf new events
+kept_events old new slots events changes keeps stays are = record {
   used = subst (AreInUse (use_after events.all)) (sym changes.slots_are) (keeps (use_after events.all) are.used);
+  confirmed = subst (AreConfirmed (confirmed_after events.all)) (sym changes.slots_are)
+      (λ number. stays number ∙ are.confirmed number);
+  turns = are.turns;
   dated = dated_same old new slots changes events.all are.dated;
   idle = are.idle;
 }
@@ -162,7 +173,7 @@ pub kept_held : (checked : CheckedOf) (limit : ℕ) (old new : Book) (total more
 kept_held checked limit old new total more connections history events kept same held =
     subst (λ (n : ℕ). IsHeldFor checked limit new n connections history events) (sym same)
     (slots_held checked limit old new (book_slots old) total connections history events kept
-    (kept_events old new (book_slots old) events kept (λ used are. are) held.events_are) held)
+    (kept_events old new (book_slots old) events kept (λ used are. are) (λ number. refl) held.events_are) held)
 
 -- ---- answers
 

@@ -1,10 +1,13 @@
 pub mod Crossing
+pub mod EventLemmas
 pub mod HeldLemmas
 pub mod KeptLemmas
 pub mod LoggedLemmas
 pub mod OwnLemmas
+pub mod PositionLemmas
 pub mod RefusalLemmas
 pub mod SeatLemmas
 pub mod SlotsKept
 pub mod SlotLemmas
 pub mod StepLemmas
+pub mod StreamLemmas

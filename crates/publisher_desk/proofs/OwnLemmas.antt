@@ -7,9 +7,10 @@ use lib.ListN.{get_elem?}
 use Rattle.publisher_desk.specs.SlotEvents.{acquisitions}
 use Rattle.publisher_desk.specs.SlotSights.{added_in, given, joined, left, nobody, only_in, owned_by, owned_in, rest_in, shown_in}
 use Rattle.publisher_desk.specs.declared.slot_event.Acquisition.{Acquisition}
+use Rattle.publisher_desk.specs.declared.slot_event.Confirmation.{Confirmation}
 use Rattle.publisher_desk.specs.declared.slot_event.Release.{Release}
 use Rattle.publisher_desk.specs.declared.slot_event.SlotEvent.{SlotEvent}
-use Rattle.publisher_desk.specs.declared.slot_event.SlotEvent.TheVariants.{Acquired, Released}
+use Rattle.publisher_desk.specs.declared.slot_event.SlotEvent.TheVariants.{Acquired, Confirmed, Released}
 use Rattle.publisher_desk.specs.declared.slot_sight.SlotSight.{SlotSight}
 use Rattle.publisher_desk.specs.declared.slot_sight.SlotView.{SlotView}
 use Rattle.publisher_desk.proofs.KeptLemmas.{only, only_else, only_here, times_append}
@@ -20,11 +21,16 @@ acquisitions_append : (events more : List SlotEvent)
     → acquisitions (events ++ more) ≡ acquisitions events + acquisitions more
 acquisitions_append [] more = omega arith
 acquisitions_append (Acquired one ∷ events) more = let rest = acquisitions_append events more in omega (arith, rest)
+acquisitions_append (Confirmed one ∷ events) more = acquisitions_append events more
 acquisitions_append (Released one ∷ events) more = acquisitions_append events more
 
 pub acquired_count : (events : List SlotEvent) (one : Acquisition)
     → acquisitions (events ++ Acquired one ∷ []) ≡ acquisitions events + 1
 acquired_count events one = acquisitions_append events (Acquired one ∷ [])
+
+pub confirmed_count : (events : List SlotEvent) (one : Confirmation)
+    → acquisitions (events ++ Confirmed one ∷ []) ≡ acquisitions events
+confirmed_count events one = let all = acquisitions_append events (Confirmed one ∷ []) in omega (arith, all)
 
 pub released_count : (events : List SlotEvent) (one : Release)
     → acquisitions (events ++ Released one ∷ []) ≡ acquisitions events
@@ -65,14 +71,16 @@ shown_owned n all (one ∷ sights) = refl
 -- whether the event is the acquisition of this number
 abbrev pub newly : ℕ → SlotEvent → ℕ → ℕ
 newly n (Acquired one) count = only (count + 1) n
+newly n (Confirmed one) count = 0
 newly n (Released one) count = 0
 
-pub added_owned : (n : ℕ) (all : List SlotEvent) (event : SlotEvent) (count : ℕ) (sights : List SlotSight)
-    → owned_in n (added_in all event count sights) ≤ owned_in n sights + newly n event count
-added_owned n all event count [] = omega arith
-added_owned n all (Acquired one) count (first ∷ sights) =
-    let more = times_append n first.own ((count + 1) ∷ []) in omega (arith, more)
-added_owned n all (Released one) count (first ∷ sights) = omega arith
+pub added_owned : (n : ℕ) (all : List SlotEvent) (event : SlotEvent) (sights : List SlotSight)
+    → owned_in n (added_in all event sights) ≤ owned_in n sights + newly n event (acquisitions all)
+added_owned n all event [] = omega arith
+added_owned n all (Acquired one) (first ∷ sights) =
+    let more = times_append n first.own ((acquisitions all + 1) ∷ []) in omega (arith, more)
+added_owned n all (Confirmed one) (first ∷ sights) = omega arith
+added_owned n all (Released one) (first ∷ sights) = omega arith
 
 -- no acquisition of this number has come before
 pub newly_single : (n : ℕ) (event : SlotEvent) (count owned : ℕ) → (count < n → owned ≡ 0) → owned ≤ 1
@@ -80,6 +88,7 @@ pub newly_single : (n : ℕ) (event : SlotEvent) (count owned : ℕ) → (count 
 newly_single n (Acquired one) count owned low single = dite (ℕ_discrete (count + 1) n)
     (λ here. let new = only_here (count + 1) n here in let none = low (omega (arith, here)) in omega (arith, new, none))
     (λ apart. let old = only_else (count + 1) n apart in omega (arith, old, single))
+newly_single n (Confirmed one) count owned low single = omega (arith, single)
 newly_single n (Released one) count owned low single = omega (arith, single)
 
 -- nor has it come now
@@ -90,6 +99,8 @@ newly_low n (Acquired one) all owned low above =
     let count = acquired_count all one in
     let old = only_else (acquisitions all + 1) n (λ here. omega (arith, here, above, count)) in
     let none = low (omega (arith, above, count)) in omega (arith, old, none)
+newly_low n (Confirmed one) all owned low above =
+    let count = confirmed_count all one in let none = low (omega (arith, above, count)) in omega (arith, none)
 newly_low n (Released one) all owned low above =
     let count = released_count all one in let none = low (omega (arith, above, count)) in omega (arith, none)
 

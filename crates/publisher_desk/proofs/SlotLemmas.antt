@@ -6,31 +6,33 @@ use Rattle.table_changes.specs.Tables.{no_rows}
 use Rattle.tables_log.specs.BookView.{book_checked, book_log, book_slots}
 use Rattle.tables_log.specs.Committing.{ChangesSlots}
 use Rattle.tables_log.specs.Slots.{AreInUse, released}
-use Rattle.tables_log.specs.StandsFor.{Transaction, AreAccepted, entries_from}
+use Rattle.tables_log.specs.StandsFor.{entries_from}
 use Rattle.tables_log.specs.declared.book.Book.{Book}
 use Rattle.tables_log.specs.declared.slots.Slot.{Slot}
 use Rattle.publisher_desk.specs.Held.{AreEventsOf}
 use Rattle.publisher_desk.specs.Logged.{IsHistoryOf}
 use Rattle.publisher_desk.specs.Receipts.{ReceiptOf, transactions_of}
 use Rattle.publisher_desk.specs.Sights.{Sees, StartsWith, times}
-use Rattle.publisher_desk.specs.SlotEvents.{Acquires, AreDated, IsDated, MayAcquire, acquisitions, use_after}
-use Rattle.publisher_desk.specs.SlotSights.{AddsEvent, BeginsWith, HasSlot, MayHaveSlot, OwnsHeld, SeesEvents, hold, slot_view}
-use Rattle.publisher_desk.specs.Viewers.{ChangesSight, HadSlot, HasReleased, Holds, IsAcceptedLog, IsUsed, IsUsedIf, IsStreamed, IsStreamedIf, Releases, SeesLog, SeesMore, ViewerOf, events_with, held_with, log_seen, release}
-use Rattle.publisher_desk.specs.declared.connection_state.ConnectionState.{ConnectionState}
+use Rattle.publisher_desk.specs.SlotEvents.{Acquires, AreConfirmed, AreDated, IsDated, acquisitions, confirmed_after, use_after, no_position, no_use}
+use Rattle.publisher_desk.specs.SlotSights.{AddsEvent, BeginsWith, HasSlot, MayHaveSlot, OwnsHeld, SeesEvents, hold, hold_with, slot_view}
+use Rattle.publisher_desk.specs.Viewers.{HadSlot, HasReleased, Holds, IsAcceptedLog, Releases, SeesLog, SeesMore, ViewerOf, log_seen, release}
 use Rattle.publisher_desk.specs.declared.sight.HistoryView.{HistoryView}
 use Rattle.publisher_desk.specs.declared.sight.Sight.{Sight}
 use Rattle.publisher_desk.specs.declared.slot_event.Acquisition.{Acquisition}
+use Rattle.publisher_desk.specs.declared.slot_event.Confirmation.{Confirmation}
 use Rattle.publisher_desk.specs.declared.slot_event.Release.{Release}
 use Rattle.publisher_desk.specs.declared.slot_event.SlotEvent.{SlotEvent}
-use Rattle.publisher_desk.specs.declared.slot_event.SlotEvent.TheVariants.{Acquired, Released}
+use Rattle.publisher_desk.specs.declared.slot_event.SlotEvent.TheVariants.{Acquired, Confirmed, Released}
 use Rattle.publisher_desk.specs.declared.slot_sight.Hold.{Hold}
 use Rattle.publisher_desk.specs.declared.slot_sight.SlotSight.{SlotSight}
 use Rattle.publisher_desk.specs.declared.slot_sight.SlotView.{SlotView}
-use Rattle.publisher_desk.proofs.HeldLemmas.{dated_same, kept_events}
+use Rattle.publisher_desk.proofs.EventLemmas.{acquired_has, confirmed_more, its_in_use, turn_push, use_more}
+use Rattle.publisher_desk.proofs.HeldLemmas.{dated_same}
 use Rattle.publisher_desk.proofs.KeptLemmas.{times_last}
 use Rattle.publisher_desk.proofs.LoggedLemmas.{history_long}
 use Rattle.tables_log.proofs.SlotUses.{released_uses}
-use Rattle.publisher_desk.proofs.SlotsKept.{acquired_has, begins_longer, use_more}
+use Rattle.publisher_desk.proofs.PositionLemmas.{released_stays}
+use Rattle.publisher_desk.proofs.SlotsKept.{begins_longer, held_confirmed}
 
 -- ---- the book's slots
 
@@ -39,42 +41,26 @@ pub was_free : (book : Book) (events : SlotView) (new : List Slot) (one : Acquis
     → Acquires (book_slots book) new one → use_after events.all one.slot ≡ false
 was_free book events new one are acquires = sym (are.used one.slot acquires.takes.slot acquires.takes.exists) ∙ acquires.takes.free
 
-dated_push : (commits : ℕ) (events : List SlotEvent) (event : SlotEvent) → AreDated commits events
+pub dated_push : (commits : ℕ) (events : List SlotEvent) (event : SlotEvent) → AreDated commits events
     → IsDated commits event → AreDated commits (events ++ event ∷ [])
 dated_push commits [] event dated last = (last, tt)
 dated_push commits (first ∷ events) event dated last = (dated.0, dated_push commits events event dated.1 last)
 
-pub unacquired_events : (old new : Book) (events more : SlotView) (acquired : Option Acquisition)
-    → acquired ≡ None → AreEventsOf old events → ChangesSlots old new (book_slots new)
-    → MayAcquire (book_slots old) (book_slots new) acquired → more ≡ events → AreEventsOf new more
-unacquired_events old new events more acquired none are changes may same =
-    subst (AreEventsOf new) (sym same) (kept_events old new (book_slots new) events changes
-    (subst (MayAcquire (book_slots old) (book_slots new)) none may) are)
-
-pub acquired_events : (old new : Book) (events more : SlotView) (acquired : Option Acquisition) (one : Acquisition)
-    → acquired ≡ Some one → AreEventsOf old events → ChangesSlots old new (book_slots new)
-    → MayAcquire (book_slots old) (book_slots new) acquired
-    → more ≡ slot_view true (events.all ++ Acquired one ∷ []) [] → AreEventsOf new more
-acquired_events old new events more acquired one some are changes may same =
-    let acquires : Acquires (book_slots old) (book_slots new) one =
-    subst (MayAcquire (book_slots old) (book_slots new)) some may in
-    subst (AreEventsOf new) (sym same) (record {
-      used = subst (λ (used : ℕ → Bool). AreInUse used (book_slots new)) (sym (use_more events.all (Acquired one)))
-          (acquires.takes.uses (use_after events.all) are.used);
-      dated = dated_push (length (book_log new)) events.all (Acquired one)
-          (dated_same old new (book_slots new) changes events.all are.dated) tt;
-      idle = refl;
-    })
-
 pub released_events : (old new : Book) (events more : SlotView) (one : Release)
     → one.commits ≡ length (book_log old) → AreEventsOf old events
     → ChangesSlots old new (released (book_slots old) one.slot)
-    → more ≡ slot_view true (events.all ++ Released one ∷ []) [] → AreEventsOf new more
-released_events old new events more one dated are changes same = subst (AreEventsOf new) (sym same) (record {
+    → more ≡ slot_view true (events.all ++ Released one ∷ []) [] → (was now : SlotSight)
+    → AddsEvent events.all (Released one) was now → AreEventsOf new more
+released_events old new events more one dated are changes same was now adds = subst (AreEventsOf new) (sym same) (record {
   used = subst (AreInUse (use_after (events.all ++ Released one ∷ []))) (sym changes.slots_are)
       (subst (λ (used : ℕ → Bool). AreInUse used (released (book_slots old) one.slot))
       (sym (use_more events.all (Released one)))
       (released_uses (use_after events.all) (book_slots old) one.slot are.used));
+  confirmed = subst (AreConfirmed (confirmed_after (events.all ++ Released one ∷ []))) (sym changes.slots_are)
+      (λ number. released_stays (book_slots old) one.slot number ∙ (are.confirmed number
+      ∙ sym (ap (λ (known : ℕ → ℕ). known number) (confirmed_more events.all (Released one)))));
+  turns = turn_push no_use no_position events.all (Released one) are.turns
+      (its_in_use events.all was.held one.slot adds.kept adds.may);
   dated = dated_push (length (book_log new)) events.all (Released one)
       (dated_same old new (released (book_slots old) one.slot) changes events.all are.dated)
       (let same_log = ap length changes.log in omega (arith, dated, same_log));
@@ -122,11 +108,6 @@ adds_more_events all event was now adds =
     subst (λ (list : List SlotEvent). BeginsWith list was.events) (sym adds.seen)
     (begins_longer all (event ∷ []) was.events adds.begins)
 
-pub changes_more_events : (acquired : Option Acquisition) (all : List SlotEvent) (was now : SlotSight)
-    → ChangesSight acquired all was now → BeginsWith now.events was.events
-changes_more_events None all was now changes = sees_more_events all was now changes
-changes_more_events (Some one) all was now changes = adds_more_events all (Acquired one) was now changes
-
 -- it still has the slot that it had
 pub sees_has : (all : List SlotEvent) (was now : SlotSight) → SeesEvents all was now
     → MayHaveSlot now.events now.held
@@ -134,12 +115,22 @@ sees_has all was now sees =
     subst (λ (held : Option Hold). MayHaveSlot now.events held) (sym sees.held)
     (subst (λ (list : List SlotEvent). MayHaveSlot list was.held) (sym sees.seen) sees.kept)
 
+-- a slot that is acquired now
+abbrev pub newly_held : List SlotEvent → Acquisition → Hold
+newly_held all one = hold one (acquisitions all + 1) (confirmed_after all one.slot) (confirmed_after all one.slot)
+
 pub acquires_has : (all : List SlotEvent) (one : Acquisition) (was now : SlotSight)
     → AddsEvent all (Acquired one) was now → MayHaveSlot now.events now.held
 acquires_has all one was now adds =
     subst (λ (held : Option Hold). MayHaveSlot now.events held) (sym adds.held)
-    (subst (λ (list : List SlotEvent). HasSlot list (hold one (acquisitions all + 1))) (sym adds.seen)
-    (acquired_has all one))
+    (subst (λ (list : List SlotEvent). HasSlot list (newly_held all one)) (sym adds.seen) (acquired_has all one adds.may))
+
+pub confirms_has : (all : List SlotEvent) (one : Confirmation) (was now : SlotSight)
+    → AddsEvent all (Confirmed one) was now → MayHaveSlot now.events now.held
+confirms_has all one was now adds =
+    subst (λ (held : Option Hold). MayHaveSlot now.events held) (sym adds.held)
+    (subst (λ (list : List SlotEvent). MayHaveSlot list (hold_with one.position was.held)) (sym adds.seen)
+    (held_confirmed all one was.held adds.kept adds.may))
 
 -- the number of its acquisition is its own
 pub sees_owns : (all : List SlotEvent) (was now : SlotSight) → SeesEvents all was now → OwnsHeld was.held was.own
@@ -155,15 +146,17 @@ acquires_owns all one was now adds =
     (subst (λ (own : List ℕ). 1 ≤ times (acquisitions all + 1) own) (sym adds.own)
     (times_last (acquisitions all + 1) was.own))
 
-pub changes_owns : (acquired : Option Acquisition) (all : List SlotEvent) (was now : SlotSight)
-    → ChangesSight acquired all was now → OwnsHeld was.held was.own → OwnsHeld now.held now.own
-changes_owns None all was now changes owns = sees_owns all was now changes owns
-changes_owns (Some one) all was now changes owns = acquires_owns all one was now changes
+confirmed_owns : (position : ℕ) (held : Option Hold) (own : List ℕ) → OwnsHeld held own
+    → OwnsHeld (hold_with position held) own
+confirmed_owns position None own owns = tt
+confirmed_owns position (Some mine) own owns = owns
 
-pub changes_has : (acquired : Option Acquisition) (all : List SlotEvent) (was now : SlotSight)
-    → ChangesSight acquired all was now → MayHaveSlot now.events now.held
-changes_has None all was now changes = sees_has all was now changes
-changes_has (Some one) all was now changes = acquires_has all one was now changes
+pub confirms_owns : (all : List SlotEvent) (one : Confirmation) (was now : SlotSight)
+    → AddsEvent all (Confirmed one) was now → OwnsHeld was.held was.own → OwnsHeld now.held now.own
+confirms_owns all one was now adds owns =
+    subst (λ (held : Option Hold). OwnsHeld held now.own) (sym adds.held)
+    (subst (OwnsHeld (hold_with one.position was.held)) (sym adds.own)
+    (confirmed_owns one.position was.held was.own owns))
 
 -- ---- a release
 
@@ -198,7 +191,11 @@ had_slot all now slot commits mine has same now_is = record {
       ∙ ap (λ (n : ℕ). has.before ++ Acquired mine.acquisition ∷ has.after ++ Released (release n commits) ∷ [])
       (sym same));
   number_is = has.number_is;
-  alone = has.alone;
+  was_free = has.was_free;
+  keep = has.keep;
+  found_is = has.found_is;
+  confirmed_is = has.confirmed_is
+      ∙ ap (λ (list : List SlotEvent). confirmed_after list mine.acquisition.slot) has.events_are;
 }
 
 free_then : (all now : List SlotEvent) (slot commits : ℕ) (mine : Hold) → mine.acquisition.slot ≡ slot
@@ -242,96 +239,3 @@ released_more checked slot commits viewer old new was now viewer_is sees release
       log = sees_more_log sees.log old new sees.sees;
       slots = adds_more_events releases.events (Released (release slot commits)) was now releases.adds;
     })
-
--- ---- a use of the slots
-
-events_changed : (acquired : Option Acquisition) (all : List SlotEvent) (was now : SlotSight)
-    → ChangesSight acquired all was now → now.events ≡ events_with acquired all
-events_changed None all was now changes = changes.seen
-events_changed (Some one) all was now changes = changes.seen
-
-held_changed : (acquired : Option Acquisition) (all : List SlotEvent) (number : ℕ) (was now : SlotSight)
-    → number ≡ acquisitions all + 1 → ChangesSight acquired all was now → now.held ≡ held_with acquired number was.held
-held_changed None all number was now number_is changes = changes.held
-held_changed (Some one) all number was now number_is changes =
-    changes.held ∙ ap (λ (n : ℕ). Some (hold one n)) (sym number_is)
-
-module _ {U A : Type 0}
-    (did : U → U → Book → Book → List ConnectionState → List ConnectionState → ℕ → Option Acquisition → A → Type 0)
-    (checked : CheckedOf) (before after : U) (old new : Sight) (was now : SlotSight) where
-  pub used_has : (answer : Option A) → IsStreamedIf did checked before after old new was now answer
-      → MayHaveSlot was.events was.held → MayHaveSlot now.events now.held
-  used_has None unused has = subst (λ (s : SlotSight). MayHaveSlot s.events s.held) (sym unused.slots) has
-  used_has (Some answer) streamed has = changes_has streamed.acquired streamed.events was now streamed.changes
-
-  pub used_owns : (answer : Option A) → IsStreamedIf did checked before after old new was now answer
-      → OwnsHeld was.held was.own → OwnsHeld now.held now.own
-  used_owns None unused owns = subst (λ (s : SlotSight). OwnsHeld s.held s.own) (sym unused.slots) owns
-  used_owns (Some answer) streamed owns =
-      changes_owns streamed.acquired streamed.events was now streamed.changes owns
-
--- what contracts see of it
-module _ {U A : Type 0}
-    (did : U → U → Book → Book → List ConnectionState → List ConnectionState → ℕ → Option Acquisition → A → Type 0)
-    (checked : CheckedOf) (before after : U) (old new : Sight) (was now : SlotSight) (viewer later : ViewerOf)
-    (viewer_is : record { seen = old.seen; events = was.events; held = was.held; own = was.own } ≡ viewer)
-    (later_is : later ≡ record { seen = new.seen; events = now.events; held = now.held; own = now.own }) where
-  is_used : (answer : A) → IsStreamed did checked before after old new was now answer
-      → IsUsed did checked viewer later before after answer
-  is_used answer streamed = record {
-    number = streamed.number;
-    acquired = streamed.acquired;
-    lent = streamed.lent;
-    log_is = ap (λ (v : ViewerOf). transactions_of v.seen) later_is ∙ ap transactions_of streamed.sees.seen
-        ∙ streamed.log_is;
-    events = streamed.events;
-    used = streamed.used;
-    each = streamed.each;
-    number_is = streamed.number_is;
-    events_are = ap (λ (v : ViewerOf). v.events) later_is
-        ∙ events_changed streamed.acquired streamed.events was now streamed.changes;
-    held_is = ap (λ (v : ViewerOf). v.held) later_is
-        ∙ held_changed streamed.acquired streamed.events streamed.number was now streamed.number_is streamed.changes
-        ∙ ap (λ (v : ViewerOf). held_with streamed.acquired streamed.number v.held) viewer_is;
-  }
-
-  pub used_accepted : (answer : Option A) → IsStreamedIf did checked before after old new was now answer
-      → IsAcceptedLog checked old.seen → IsAcceptedLog checked new.seen
-  used_accepted None unused accepted =
-      subst (λ (s : Sight). IsAcceptedLog checked s.seen) (sym unused.log) accepted
-  used_accepted (Some answer) streamed accepted =
-      shown_accepted checked streamed.log old new streamed.sees
-      (subst (λ (list : List Transaction). AreAccepted (setting_in checked) no_rows list) (sym streamed.log_is)
-      (subst (λ (one : CheckedOf). AreAccepted (setting_in one) no_rows streamed.lent.transactions) streamed.lent.named
-      streamed.lent.stands.accepted))
-
-  pub used_if : (answer : Option A) → IsStreamedIf did checked before after old new was now answer
-      → IsUsedIf did checked viewer later before after answer
-  used_if None unused = record {
-    viewer = later_is ∙ (λ i. record {
-      seen = (unused.log i).seen;
-      events = (unused.slots i).events;
-      held = (unused.slots i).held;
-      own = (unused.slots i).own;
-    }) ∙ viewer_is;
-    user = unused.user;
-  }
-  used_if (Some answer) streamed = is_used answer streamed
-
-  more_of : StartsWith new.seen old.seen → BeginsWith now.events was.events → SeesMore viewer later
-  more_of log slots = subst (λ (v : ViewerOf). SeesMore v later) viewer_is
-      (subst (λ (v : ViewerOf). SeesMore (record {
-        seen = old.seen;
-        events = was.events;
-        held = was.held;
-        own = was.own;
-      }) v) (sym later_is) (record { log = log; slots = slots }))
-
-  pub used_more : (answer : Option A) → IsStreamedIf did checked before after old new was now answer
-      → SeesMore viewer later
-  used_more None unused =
-      more_of ([], ap (λ (s : Sight). s.seen) unused.log ∙ sym (append-nil old.seen))
-      ([], ap (λ (s : SlotSight). s.events) unused.slots ∙ sym (append-nil was.events))
-  used_more (Some answer) streamed =
-      more_of (sees_more_log streamed.log old new streamed.sees)
-      (changes_more_events streamed.acquired streamed.events was now streamed.changes)

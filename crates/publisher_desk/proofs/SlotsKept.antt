@@ -8,31 +8,17 @@ use lib.ListN.{get_elem?}
 use Rattle.atomic_table.specs.Table.{State, Me, Allows, Splits, Joins}
 use Rattle.atomic_table.specs.Table as table
 use Rattle.atomic_table.proofs.Lists.{at_set, at_snoc, set_else}
-use Rattle.publisher_desk.specs.SlotEvents.{LeaveAlone, acquisitions, slot_in, use_after, use_by, use_from}
-use Rattle.publisher_desk.specs.SlotSights.{slot_view, hold, BeginsWith, HasSlot, MayHaveSlot, AreKnown, has_slot, held_in, held_by, owned_by, owned_in, FitsEvents, AreSlotsKept, begun, shown_in, shown, held_after, added_in, added, MayHappen, first_in, rest_in, only_in, left, given, joined, nobody}
+use Rattle.publisher_desk.specs.SlotEvents.{acquisitions, confirmed_after, slot_in, use_after, use_by}
+use Rattle.publisher_desk.specs.SlotSights.{slot_view, hold, BeginsWith, MayHaveSlot, AreKnown, has_slot, held_in, held_by, hold_with, owned_by, owned_in, FitsEvents, AreSlotsKept, HasIt, begun, shown_in, shown, held_after, added_in, added, MayHappen, first_in, rest_in, only_in, left, given, joined, nobody}
 use Rattle.publisher_desk.specs.declared.slot_event.Acquisition.{Acquisition}
+use Rattle.publisher_desk.specs.declared.slot_event.Confirmation.{Confirmation}
 use Rattle.publisher_desk.specs.declared.slot_event.SlotEvent.{SlotEvent}
-use Rattle.publisher_desk.specs.declared.slot_event.SlotEvent.TheVariants.{Acquired, Released}
+use Rattle.publisher_desk.specs.declared.slot_event.SlotEvent.TheVariants.{Acquired, Confirmed, Released}
 use Rattle.publisher_desk.specs.declared.slot_sight.Hold.{Hold}
 use Rattle.publisher_desk.specs.declared.slot_sight.SlotSight.{SlotSight}
 use Rattle.publisher_desk.specs.declared.slot_sight.SlotView.{SlotView}
+use Rattle.publisher_desk.proofs.EventLemmas.{acquired_has, confirmed_has, stays_held, use_more}
 use Rattle.publisher_desk.proofs.OwnLemmas.{added_owned, cuts_owned, joins_owned, newly, newly_low, newly_single, owned_one, owned_set, shown_owned}
-
--- ---- events
-
-use_push : (used : ℕ → Bool) (events : List SlotEvent) (event : SlotEvent)
-    → use_from used (events ++ event ∷ []) ≡ use_by event (use_from used events)
-use_push used [] event = refl
-use_push used (first ∷ events) event = use_push (use_by first used) events event
-
-pub use_more : (events : List SlotEvent) (event : SlotEvent)
-    → use_after (events ++ event ∷ []) ≡ use_by event (use_after events)
-use_more events event = use_push (λ number. false) events event
-
-pub alone_append : (slot : ℕ) (events : List SlotEvent) (event : SlotEvent) → LeaveAlone slot events
-    → slot_in event ≢ slot → LeaveAlone slot (events ++ event ∷ [])
-alone_append slot [] event alone other = (other, tt)
-alone_append slot (first ∷ events) event alone other = (alone.0, alone_append slot events event alone.1 other)
 
 -- ---- which views have a slot
 
@@ -90,17 +76,6 @@ begins_whole : (all events : List SlotEvent) → events ≡ all → BeginsWith a
 begins_whole all events same = ([], sym same ∙ sym (append-nil events))
 
 -- an event of another slot leaves it
-stays_held : (all : List SlotEvent) (event : SlotEvent) (held : Hold) → HasSlot all held
-    → slot_in event ≢ held.acquisition.slot → HasSlot (all ++ event ∷ []) held
-stays_held all event held has other = record {
-  before = has.before;
-  after = has.after ++ event ∷ [];
-  events_are = ap (λ (list : List SlotEvent). list ++ event ∷ []) has.events_are
-      ∙ append_assoc has.before (Acquired held.acquisition ∷ has.after) (event ∷ []);
-  number_is = has.number_is;
-  alone = alone_append held.acquisition.slot has.after event has.alone other;
-}
-
 may_stay : (all : List SlotEvent) (event : SlotEvent) (held : Option Hold) → has_slot (slot_in event) held ≡ 0
     → MayHaveSlot all held → MayHaveSlot (all ++ event ∷ []) held
 may_stay all event None none has = tt
@@ -155,22 +130,36 @@ split_first : (slot : ℕ) (sights : List SlotSight)
 split_first slot [] = refl
 split_first slot (one ∷ sights) = refl
 
-pub acquired_has : (all : List SlotEvent) (one : Acquisition)
-    → HasSlot (all ++ Acquired one ∷ []) (hold one (acquisitions all + 1))
-acquired_has all one = record { before = all; after = []; events_are = refl; number_is = refl; alone = tt }
+first_known : (all : List SlotEvent) (sights : List SlotSight) → AreKnown all sights
+    → MayHaveSlot all (first_in sights).held
+first_known all [] known = tt
+first_known all (one ∷ sights) known = known.1
 
-after_event : (all : List SlotEvent) (event : SlotEvent)
-    → MayHaveSlot (all ++ event ∷ []) (held_after event (acquisitions all))
-after_event all (Acquired one) = acquired_has all one
-after_event all (Released one) = tt
+pub held_confirmed : (all : List SlotEvent) (one : Confirmation) (held : Option Hold) → MayHaveSlot all held
+    → HasIt held one.slot → MayHaveSlot (all ++ Confirmed one ∷ []) (hold_with one.position held)
+held_confirmed all one None has its = tt
+held_confirmed all one (Some mine) has (it, same, slot) =
+    let alike : mine ≡ it = cc in
+    confirmed_has all one mine has (ap (λ (h : Hold). h.acquisition.slot) alike ∙ slot)
 
-added_known : (log all : List SlotEvent) (event : SlotEvent) (count : ℕ) (sights : List SlotSight)
-    → all ≡ log ++ event ∷ [] → MayHaveSlot (log ++ event ∷ []) (held_after event count)
+after_event : (all : List SlotEvent) (event : SlotEvent) (held : Option Hold) → MayHaveSlot all held
+    → MayHappen event all held → MayHaveSlot (all ++ event ∷ []) (held_after event all held)
+after_event all (Acquired one) held has may = acquired_has all one may
+after_event all (Confirmed one) held has may = held_confirmed all one held has may
+after_event all (Released one) held has may = tt
+
+-- what is confirmed changes not who has a slot
+confirmed_slot : (slot position : ℕ) (held : Option Hold) → has_slot slot (hold_with position held) ≡ has_slot slot held
+confirmed_slot slot position None = refl
+confirmed_slot slot position (Some mine) = refl
+
+added_known : (log all : List SlotEvent) (event : SlotEvent) (sights : List SlotSight) → all ≡ log
+    → MayHaveSlot (log ++ event ∷ []) (held_after event all (first_in sights).held)
     → others (slot_in event) sights ≡ 0
-    → AreKnown log sights → AreKnown (log ++ event ∷ []) (added_in all event count sights)
-added_known log all event count [] same has none known = tt
-added_known log all event count (one ∷ sights) same has none known = (
-  begins_whole (log ++ event ∷ []) all same,
+    → AreKnown log sights → AreKnown (log ++ event ∷ []) (added_in all event sights)
+added_known log all event [] same has none known = tt
+added_known log all event (one ∷ sights) same has none known = (
+  begins_whole (log ++ event ∷ []) (all ++ event ∷ []) (ap (λ (list : List SlotEvent). list ++ event ∷ []) same),
   has,
   known_longer log event sights none known.2,
 )
@@ -246,24 +235,34 @@ module _ (views : List SlotView) (kept : AreSlotsKept views) (by : ℕ) (v : Slo
         → has_slot slot (first_in v.sights).held ≡ 1
     mine_has slot (mine, held, same) = ap (has_slot slot) held ∙ has_here slot mine same
 
-    -- of the slot of the event, the sights of this view but the first, and the other views
+    -- of the slot that the first sight of this view has, its other sights, and the other views
+    rest_of : (slot : ℕ) → HasIt (first_in v.sights).held slot → others slot v.sights ≡ 0
+    rest_of slot has =
+        let mine = mine_has slot has in let once = kept.once slot in
+        let some = held_one slot views by v at in let split = split_first slot v.sights in
+        omega (arith, mine, once, some, split)
+
+    other_of : (slot : ℕ) → HasIt (first_in v.sights).held slot → (j : ℕ) (u : SlotView) → j ≢ by
+        → get_elem? views j ≡ some u → held_in slot u.sights ≡ 0
+    other_of slot has j u apart there =
+        let mine = mine_has slot has in let once = kept.once slot in
+        let both = held_two slot views j by u v apart there at in
+        let split = split_first slot v.sights in omega (arith, mine, once, both, split)
+
+    -- so it is of the slot of the event
     no_rest : (e : SlotEvent) → MayHappen e v.all (first_in v.sights).held → others (slot_in e) v.sights ≡ 0
     no_rest (Acquired one) free =
         let all = unused one free in let some = held_one one.slot views by v at in
         let split = split_first one.slot v.sights in omega (arith, all, some, split)
-    no_rest (Released one) has =
-        let mine = mine_has one.slot has in let once = kept.once one.slot in
-        let some = held_one one.slot views by v at in let split = split_first one.slot v.sights in
-        omega (arith, mine, once, some, split)
+    no_rest (Confirmed one) has = rest_of one.slot has
+    no_rest (Released one) has = rest_of one.slot has
 
     no_other : (e : SlotEvent) → MayHappen e v.all (first_in v.sights).held → (j : ℕ) (u : SlotView) → j ≢ by
         → get_elem? views j ≡ some u → held_in (slot_in e) u.sights ≡ 0
     no_other (Acquired one) free j u apart there =
         let all = unused one free in let some = held_one one.slot views j u there in omega (arith, all, some)
-    no_other (Released one) has j u apart there =
-        let mine = mine_has one.slot has in let once = kept.once one.slot in
-        let both = held_two one.slot views j by u v apart there at in
-        let split = split_first one.slot v.sights in omega (arith, mine, once, both, split)
+    no_other (Confirmed one) has j u apart there = other_of one.slot has j u apart there
+    no_other (Released one) has j u apart there = other_of one.slot has j u apart there
 
     abbrev longer : List SlotEvent
     longer = kept.all ++ event ∷ []
@@ -272,17 +271,18 @@ module _ (views : List SlotView) (kept : AreSlotsKept views) (by : ℕ) (v : Slo
     whole = ap (λ (list : List SlotEvent). list ++ event ∷ []) fits.1
 
     abbrev held : Option Hold
-    held = held_after event (acquisitions v.all)
+    held = held_after event v.all (first_in v.sights).held
 
     has_held : MayHaveSlot longer held
-    has_held = subst (λ (list : List SlotEvent). MayHaveSlot list held) whole (after_event v.all event)
+    has_held = subst (λ (list : List SlotEvent). MayHaveSlot list held) whole
+        (after_event v.all event (first_in v.sights).held (first_known v.all v.sights (tells keeps)) may)
 
     -- the numbers of the acquisitions that views have then
     adds_owned : (n : ℕ) → owned_by n (set views by (added event v))
         ≤ owned_by n views + newly n event (acquisitions kept.all)
     adds_owned n =
         let change = owned_set n views by v (added event v) at in
-        let more = added_owned n (v.all ++ event ∷ []) event (acquisitions v.all) v.sights in
+        let more = added_owned n v.all event v.sights in
         let same = ap (λ (list : List SlotEvent). newly n event (acquisitions list)) fits.1 in
         omega (arith, change, more, same)
 
@@ -294,52 +294,62 @@ module _ (views : List SlotView) (kept : AreSlotsKept views) (by : ℕ) (v : Slo
           known_longer kept.all event u.sights (no_other event may j u apart there) other.1,
         )) (
           (λ _. (fits.0, whole)),
-          added_known kept.all (v.all ++ event ∷ []) event (acquisitions v.all) v.sights whole has_held
-              (no_rest event may)
-              (kept.each by v at).1,
+          added_known kept.all v.all event v.sights fits.1 has_held (no_rest event may) (kept.each by v at).1,
         )
 
     -- what the view then holds of a slot
-    added_held : (slot : ℕ) (all : List SlotEvent) (count : ℕ) (sights : List SlotSight)
-        → held_in slot (added_in all event count sights)
-        ≤ has_slot slot (held_after event count) + others slot sights
-    added_held slot all count [] = omega arith
-    added_held slot all count (one ∷ sights) = omega arith
+    added_held : (slot : ℕ) (all : List SlotEvent) (sights : List SlotSight) → held_in slot (added_in all event sights)
+        ≤ has_slot slot (held_after event all (first_in sights).held) + others slot sights
+    added_held slot all [] = omega arith
+    added_held slot all (one ∷ sights) = omega arith
+
+    abbrev newly_held : Acquisition → Hold
+    newly_held one =
+        hold one (acquisitions v.all + 1) (confirmed_after v.all one.slot) (confirmed_after v.all one.slot)
 
     -- whatever the event, of its own slot and of each other
     once_by : (e : SlotEvent) → MayHappen e v.all (first_in v.sights).held → (slot : ℕ) (count : ℕ)
         → count + held_in slot v.sights
-        ≤ held_by slot views + has_slot slot (held_after e (acquisitions v.all)) + others slot v.sights → count ≤ 1
+        ≤ held_by slot views + has_slot slot (held_after e v.all (first_in v.sights).held) + others slot v.sights
+        → count ≤ 1
     once_by (Acquired one) free slot count change =
         let before = kept.once slot in let split = split_first slot v.sights in
         dite (ℕ_discrete one.slot slot)
-        (λ here. let mine = has_here slot (hold one (acquisitions v.all + 1)) here in
+        (λ here. let mine = has_here slot (newly_held one) here in
         let none : held_by slot views ≡ 0 = subst (λ (n : ℕ). held_by n views ≡ 0) here (unused one free) in
         omega (arith, change, mine, none, split))
-        (λ apart. let mine = has_else slot (hold one (acquisitions v.all + 1)) apart in
+        (λ apart. let mine = has_else slot (newly_held one) apart in
         omega (arith, change, mine, before, split))
+    once_by (Confirmed other) has slot count change =
+        let before = kept.once slot in let split = split_first slot v.sights in
+        let same = confirmed_slot slot other.position (first_in v.sights).held in
+        omega (arith, change, before, split, same)
     once_by (Released other) has slot count change =
         let before = kept.once slot in let split = split_first slot v.sights in omega (arith, change, before, split)
 
     free_by : (e : SlotEvent) → MayHappen e v.all (first_in v.sights).held → (slot : ℕ) (count : ℕ)
         → use_by e (use_after kept.all) slot ≡ false
         → count + held_in slot v.sights
-        ≤ held_by slot views + has_slot slot (held_after e (acquisitions v.all)) + others slot v.sights → count ≡ 0
+        ≤ held_by slot views + has_slot slot (held_after e v.all (first_in v.sights).held) + others slot v.sights
+        → count ≡ 0
     free_by (Acquired one) free slot count unused_then change =
         let split = split_first slot v.sights in
         dite (ℕ_discrete one.slot slot)
         (λ here. absurd (true≢false (sym (ap (λ b. cond b true (use_after kept.all slot)) (eq-eqb slot one.slot (sym here)))
         ∙ unused_then)))
-        (λ apart. let mine = has_else slot (hold one (acquisitions v.all + 1)) apart in
+        (λ apart. let mine = has_else slot (newly_held one) apart in
         let still = sym (ap (λ b. cond b true (use_after kept.all slot)) (ne_eqb slot one.slot (λ same. apart (sym same))))
         ∙ unused_then in
         let none = kept.free slot still in omega (arith, change, mine, none, split))
+    free_by (Confirmed other) has slot count unused_then change =
+        let none = kept.free slot unused_then in let split = split_first slot v.sights in
+        let same = confirmed_slot slot other.position (first_in v.sights).held in
+        omega (arith, change, none, split, same)
     free_by (Released other) has slot count unused_then change =
         let split = split_first slot v.sights in
         dite (ℕ_discrete other.slot slot)
-        (λ here. let mine = mine_has slot (subst (λ (n : ℕ). (held : Hold) × ((first_in v.sights).held ≡ Some held)
-        × (held.acquisition.slot ≡ n)) here has) in let before = kept.once slot in
-        omega (arith, change, mine, before, split))
+        (λ here. let mine = mine_has slot (subst (HasIt (first_in v.sights).held) here has) in
+        let before = kept.once slot in omega (arith, change, mine, before, split))
         (λ apart. let still = sym (ap (λ b. cond b false (use_after kept.all slot))
         (ne_eqb slot other.slot (λ same. apart (sym same)))) ∙ unused_then in
         let none = kept.free slot still in omega (arith, change, none, split))
@@ -348,7 +358,7 @@ module _ (views : List SlotView) (kept : AreSlotsKept views) (by : ℕ) (v : Slo
         ≤ held_by slot views + has_slot slot held + others slot v.sights
     change_of slot =
         let change = held_set slot views by v (added event v) at in
-        let more = added_held slot (v.all ++ event ∷ []) (acquisitions v.all) v.sights in omega (arith, change, more)
+        let more = added_held slot v.all v.sights in omega (arith, change, more)
 
     adds_kept : AreSlotsKept (set views by (added event v))
     adds_kept = record {

@@ -11,7 +11,7 @@ use Rattle.tables_log.specs.Slots.{AreInUse}
 use Rattle.tables_log.specs.StandsFor.{Transaction, AreAccepted, StandsFor, entries_from}
 use Rattle.tables_log.specs.declared.book.Book.{Book}
 use Rattle.publisher_desk.specs.Logged.{IsHistoryOf}
-use Rattle.publisher_desk.specs.SlotEvents.{AreDated, use_after}
+use Rattle.publisher_desk.specs.SlotEvents.{AreConfirmed, AreDated, AreInTurn, confirmed_after, no_position, no_use, use_after}
 use Rattle.publisher_desk.specs.SlotSights.{slot_view}
 use Rattle.publisher_desk.specs.declared.sight.HistoryView.{HistoryView}
 use Rattle.publisher_desk.specs.declared.slot_sight.SlotView.{SlotView}
@@ -42,9 +42,12 @@ pub record IsBookOf (checked : CheckedOf) (limit : ℕ) (book : Book) : Type 0 w
   pub transactions : List Transaction
   pub stands : StandsFor book transactions
 
--- The slots in use are those that streams have acquired and not released. No release is dated after the log's end.
+-- The slots in use are those that streams have acquired and not released, and each is confirmed up to the position of its
+-- last confirmation. Each event came in turn, and no release is dated after the log's end.
 pub record AreEventsOf (book : Book) (events : SlotView) : Type 0 where
   pub used : AreInUse (use_after events.all) (book_slots book)
+  pub confirmed : AreConfirmed (confirmed_after events.all) (book_slots book)
+  pub turns : AreInTurn no_use no_position events.all
   pub dated : AreDated (length (book_log book)) events.all
   pub idle : events ≡ slot_view true events.all []
 

@@ -3,10 +3,10 @@ use Rattle.std.specs.Prelude.{◌≡◌, ℕ, ◌+◌, ◌<◌, ◌≤◌, ◌==
 use mathlib.Core.Option.{some}
 use lib.ListN.{get_elem?}
 use Rattle.publisher_desk.specs.Sights.{times}
-use Rattle.publisher_desk.specs.SlotEvents.{LeaveAlone, acquisitions, use_after}
+use Rattle.publisher_desk.specs.SlotEvents.{KeepSlot, acquisitions, confirmed_after, use_after}
 use Rattle.publisher_desk.specs.declared.slot_event.Acquisition.{Acquisition}
 use Rattle.publisher_desk.specs.declared.slot_event.SlotEvent.{SlotEvent}
-use Rattle.publisher_desk.specs.declared.slot_event.SlotEvent.TheVariants.{Acquired, Released}
+use Rattle.publisher_desk.specs.declared.slot_event.SlotEvent.TheVariants.{Acquired, Confirmed, Released}
 use Rattle.publisher_desk.specs.declared.slot_sight.Hold.{Hold}
 use Rattle.publisher_desk.specs.declared.slot_sight.SlotSight.{SlotSight}
 use Rattle.publisher_desk.specs.declared.slot_sight.SlotView.{SlotView}
@@ -17,20 +17,25 @@ slot_sight events held own = record { events = events; held = held; own = own }
 abbrev pub slot_view : Bool → List SlotEvent → List SlotSight → SlotView
 slot_view keeps all sights = record { keeps = keeps; all = all; sights = sights }
 
-abbrev pub hold : Acquisition → ℕ → Hold
-hold acquisition number = record { acquisition = acquisition; number = number }
+abbrev pub hold : Acquisition → ℕ → ℕ → ℕ → Hold
+hold acquisition number found confirmed =
+    record { acquisition = acquisition; number = number; found = found; confirmed = confirmed }
 
 -- All events begin with these.
 abbrev pub BeginsWith : List SlotEvent → List SlotEvent → Type 0
 BeginsWith all events = (rest : List SlotEvent) × (all ≡ events ++ rest)
 
--- The stream acquired its slot in these events, and no event after that is of the slot.
+-- The stream acquired its slot in these events while it was free, and no event after that acquires or releases it. Up
+-- to where it was confirmed then, and is after all events, is known.
 pub record HasSlot (events : List SlotEvent) (held : Hold) : Type 0 where
   pub before : List SlotEvent
   pub after : List SlotEvent
   pub events_are : events ≡ before ++ Acquired held.acquisition ∷ after
   pub number_is : held.number ≡ acquisitions before + 1
-  pub alone : LeaveAlone held.acquisition.slot after
+  pub was_free : use_after before held.acquisition.slot ≡ false
+  pub keep : KeepSlot held.acquisition.slot after
+  pub found_is : held.found ≡ confirmed_after before held.acquisition.slot
+  pub confirmed_is : held.confirmed ≡ confirmed_after events held.acquisition.slot
 
 abbrev pub MayHaveSlot : List SlotEvent → Option Hold → Type 0
 MayHaveSlot events None = Unit {0}
@@ -89,29 +94,41 @@ shown_in all (one ∷ sights) = slot_sight all one.held one.own ∷ sights
 abbrev pub shown : SlotView → SlotView
 shown view = slot_view view.keeps view.all (shown_in view.all view.sights)
 
--- what the connection of an event holds after it, if so many streams had acquired slots before
-abbrev pub held_after : SlotEvent → ℕ → Option Hold
-held_after (Acquired one) count = Some (hold one (count + 1))
-held_after (Released one) count = None
+-- the slot that a connection holds, confirmed up to here
+abbrev pub hold_with : ℕ → Option Hold → Option Hold
+hold_with position None = None
+hold_with position (Some mine) = Some (hold mine.acquisition mine.number mine.found position)
+
+-- what the connection of an event holds after it, if these events came before, and it held this
+abbrev pub held_after : SlotEvent → List SlotEvent → Option Hold → Option Hold
+held_after (Acquired one) all held =
+    Some (hold one (acquisitions all + 1) (confirmed_after all one.slot) (confirmed_after all one.slot))
+held_after (Confirmed one) all held = hold_with one.position held
+held_after (Released one) all held = None
 
 -- the numbers of the acquisitions of its connection
 abbrev pub own_after : SlotEvent → ℕ → List ℕ → List ℕ
 own_after (Acquired one) count own = own ++ (count + 1) ∷ []
+own_after (Confirmed one) count own = own
 own_after (Released one) count own = own
 
-abbrev pub added_in : List SlotEvent → SlotEvent → ℕ → List SlotSight → List SlotSight
-added_in all event count [] = []
-added_in all event count (one ∷ sights) =
-    slot_sight all (held_after event count) (own_after event count one.own) ∷ sights
+abbrev pub added_in : List SlotEvent → SlotEvent → List SlotSight → List SlotSight
+added_in all event [] = []
+added_in all event (one ∷ sights) =
+    slot_sight (all ++ event ∷ []) (held_after event all one.held) (own_after event (acquisitions all) one.own) ∷ sights
 
 abbrev pub added : SlotEvent → SlotView → SlotView
-added event view = slot_view view.keeps (view.all ++ event ∷ [])
-    (added_in (view.all ++ event ∷ []) event (acquisitions view.all) view.sights)
+added event view = slot_view view.keeps (view.all ++ event ∷ []) (added_in view.all event view.sights)
 
--- A slot is acquired only if it is free, and released only by the connection that has it.
+-- the connection has this slot
+abbrev pub HasIt : Option Hold → ℕ → Type 0
+HasIt held slot = (mine : Hold) × (held ≡ Some mine) × (mine.acquisition.slot ≡ slot)
+
+-- A slot is acquired only if it is free, and confirmed and released only by the connection that has it.
 abbrev pub MayHappen : SlotEvent → List SlotEvent → Option Hold → Type 0
 MayHappen (Acquired one) all held = use_after all one.slot ≡ false
-MayHappen (Released one) all held = (mine : Hold) × (held ≡ Some mine) × (mine.acquisition.slot ≡ one.slot)
+MayHappen (Confirmed one) all held = HasIt held one.slot
+MayHappen (Released one) all held = HasIt held one.slot
 
 -- ---- cutting and joining
 
@@ -165,6 +182,7 @@ pub record SeesEvents (all : List SlotEvent) (old new : SlotSight) : Type 0 wher
 pub record AddsEvent (all : List SlotEvent) (event : SlotEvent) (old new : SlotSight) : Type 0 where
   pub begins : BeginsWith all old.events
   pub kept : MayHaveSlot all old.held
+  pub may : MayHappen event all old.held
   pub seen : new.events ≡ all ++ event ∷ []
-  pub held : new.held ≡ held_after event (acquisitions all)
+  pub held : new.held ≡ held_after event all old.held
   pub own : new.own ≡ own_after event (acquisitions all) old.own

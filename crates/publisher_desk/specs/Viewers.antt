@@ -12,14 +12,15 @@ use Rattle.tables_log.specs.declared.slots.Slot.{Slot}
 use Rattle.publisher_desk.specs.Lending.{IsLent}
 use Rattle.publisher_desk.specs.Receipts.{ReceiptOf, transactions_of}
 use Rattle.publisher_desk.specs.Sights.{Sees, StartsWith, times}
-use Rattle.publisher_desk.specs.SlotEvents.{LeaveAlone, acquisitions, use_after}
-use Rattle.publisher_desk.specs.SlotSights.{AddsEvent, BeginsWith, SeesEvents, hold}
+use Rattle.publisher_desk.specs.SlotEvents.{AreConfirmed, KeepSlot, acquisitions, confirmed_after, events_then, events_with, use_after}
+use Rattle.publisher_desk.specs.SlotSights.{AddsEvent, BeginsWith, MayHaveSlot, SeesEvents, hold}
 use Rattle.publisher_desk.specs.declared.connection_state.ConnectionState.{ConnectionState}
 use Rattle.publisher_desk.specs.declared.sight.Sight.{Sight}
 use Rattle.publisher_desk.specs.declared.slot_event.Acquisition.{Acquisition}
+use Rattle.publisher_desk.specs.declared.slot_event.Confirmation.{Confirmation}
 use Rattle.publisher_desk.specs.declared.slot_event.Release.{Release}
 use Rattle.publisher_desk.specs.declared.slot_event.SlotEvent.{SlotEvent}
-use Rattle.publisher_desk.specs.declared.slot_event.SlotEvent.TheVariants.{Acquired, Released}
+use Rattle.publisher_desk.specs.declared.slot_event.SlotEvent.TheVariants.{Acquired, Confirmed, Released}
 use Rattle.publisher_desk.specs.declared.slot_sight.Hold.{Hold}
 use Rattle.publisher_desk.specs.declared.slot_sight.SlotSight.{SlotSight}
 
@@ -50,32 +51,62 @@ IsAcceptedLog checked seen = AreAccepted (setting_in checked) no_rows (transacti
 
 -- ---- a use of the slots
 
--- what a connection has seen, and has, after it acquired a slot or did not
-abbrev pub events_with : Option Acquisition → List SlotEvent → List SlotEvent
-events_with None events = events
-events_with (Some one) events = events ++ Acquired one ∷ []
+-- the connection has this slot
+pub record Holds (held : Option Hold) (slot : ℕ) : Type 0 where
+  pub mine : Hold
+  pub held_is : held ≡ Some mine
+  pub slot_is : mine.acquisition.slot ≡ slot
 
-abbrev pub held_with : Option Acquisition → ℕ → Option Hold → Option Hold
-held_with None number held = held
-held_with (Some one) number held = Some (hold one number)
+-- so it is if a slot is named
+abbrev pub HoldsIf : Option Hold → Option ℕ → Type 0
+HoldsIf held None = Unit {0}
+HoldsIf held (Some slot) = Holds held slot
+
+-- the slot that it has, confirmed as slots are now
+abbrev pub hold_at : (ℕ → ℕ) → Option Hold → Option Hold
+hold_at known None = None
+hold_at known (Some mine) = Some (hold mine.acquisition mine.number mine.found (known mine.acquisition.slot))
+
+-- what it has after it acquired a slot or did not, where slots were confirmed up to these positions before
+abbrev pub held_with : Option Acquisition → ℕ → (ℕ → ℕ) → (ℕ → ℕ) → Option Hold → Option Hold
+held_with None number found known held = hold_at known held
+held_with (Some one) number found known held = Some (hold one number (found one.slot) (known one.slot))
+
+-- What is confirmed is for the slot that the connection then has.
+abbrev pub MayNote : Option Acquisition → Option Confirmation → Option Hold → Type 0
+MayNote acquired None held = Unit {0}
+MayNote None (Some one) held = Holds held one.slot
+MayNote (Some it) (Some one) held = it.slot ≡ one.slot
+
+-- the permit that is given out: that of the slot, if one was acquired
+abbrev pub permit_for : Option Acquisition → Option ℕ
+permit_for None = None
+permit_for (Some one) = Some one.slot
 
 -- The connection was lent a book of the log that it has then seen, with a slot for each subscription. Before it used
--- the book, the slots in use were those after these events. If it acquired a slot, this was the acquisition of this
--- number.
+-- the book, the slots in use were those after these events, each was confirmed as they say, and the connection had what
+-- it has. If it acquired a slot, this was the acquisition of this number, and it has a permit. It confirmed at most the
+-- slot that it has.
 pub record IsUsed {U A : Type 0}
     (did : U → U → Book → Book → List ConnectionState → List ConnectionState → ℕ → Option Acquisition → A → Type 0)
-    (checked : CheckedOf) (old new : ViewerOf) (before after : U) (answer : A) : Type 0 where
+    (checked : CheckedOf) (old new : ViewerOf) (before after : U) (answer : A) (permit : Option ℕ) : Type 0 where
   pub number : ℕ
   pub acquired : Option Acquisition
+  pub confirmed : Option Confirmation
   pub lent : IsLent (λ user left book changed connections others it.
       did user left book changed connections others number acquired it) checked before after answer
   pub log_is : transactions_of new.seen ≡ lent.transactions
   pub events : List SlotEvent
   pub used : AreInUse (use_after events) (book_slots lent.old)
   pub each : length (book_slots lent.old) ≡ length checked.catalog.subscriptions
+  pub found : AreConfirmed (confirmed_after events) (book_slots lent.old)
+  pub had : MayHaveSlot events old.held
+  pub mine : MayNote acquired confirmed old.held
   pub number_is : number ≡ acquisitions events + 1
-  pub events_are : new.events ≡ events_with acquired events
-  pub held_is : new.held ≡ held_with acquired number old.held
+  pub events_are : new.events ≡ events_then confirmed (events_with acquired events)
+  pub known : AreConfirmed (confirmed_after new.events) (book_slots lent.new)
+  pub held_is : new.held ≡ held_with acquired number (confirmed_after events) (confirmed_after new.events) old.held
+  pub permit_is : permit ≡ permit_for acquired
 
 -- Nothing was done.
 pub record IsUnused {U : Type 0} (old new : ViewerOf) (before after : U) : Type 0 where
@@ -84,17 +115,19 @@ pub record IsUnused {U : Type 0} (old new : ViewerOf) (before after : U) : Type 
 
 abbrev pub IsUsedIf : {U A : Type 0}
     → (U → U → Book → Book → List ConnectionState → List ConnectionState → ℕ → Option Acquisition → A → Type 0)
-    → CheckedOf → ViewerOf → ViewerOf → U → U → Option A → Type 0
+    → CheckedOf → ViewerOf → ViewerOf → U → U → Option (A × Option ℕ) → Type 0
 IsUsedIf did checked old new before after None = IsUnused old new before after
-IsUsedIf did checked old new before after (Some answer) = IsUsed did checked old new before after answer
+IsUsedIf did checked old new before after (Some answered) =
+    IsUsed did checked old new before after answered.0 answered.1
 
 -- ---- a release
 
 abbrev pub release : ℕ → ℕ → Release
 release slot commits = record { slot = slot; commits = commits }
 
--- The stream acquired its slot, and released it when the log had so many commits; no event between these is of the
--- slot.
+-- The stream acquired its slot while it was free, and released it when the log had so many commits. Between these no
+-- event acquires or releases the slot. Up to where it was confirmed before the acquisition, and before the release, is
+-- known.
 pub record HadSlot (events : List SlotEvent) (held : Hold) (commits : ℕ) : Type 0 where
   pub before : List SlotEvent
   pub between : List SlotEvent
@@ -102,13 +135,11 @@ pub record HadSlot (events : List SlotEvent) (held : Hold) (commits : ℕ) : Typ
   pub events_are : events
       ≡ before ++ Acquired held.acquisition ∷ between ++ Released (release held.acquisition.slot commits) ∷ after
   pub number_is : held.number ≡ acquisitions before + 1
-  pub alone : LeaveAlone held.acquisition.slot between
-
--- the connection has this slot
-pub record Holds (held : Option Hold) (slot : ℕ) : Type 0 where
-  pub mine : Hold
-  pub held_is : held ≡ Some mine
-  pub slot_is : mine.acquisition.slot ≡ slot
+  pub was_free : use_after before held.acquisition.slot ≡ false
+  pub keep : KeepSlot held.acquisition.slot between
+  pub found_is : held.found ≡ confirmed_after before held.acquisition.slot
+  pub confirmed_is : held.confirmed
+      ≡ confirmed_after (before ++ Acquired held.acquisition ∷ between) held.acquisition.slot
 
 -- It has released the slot that it had, which is then free. The acquisition is its own. It has seen the log as it was
 -- then.
@@ -166,16 +197,29 @@ pub record Releases (slot commits : ℕ) (was now : SlotSight) : Type 0 where
   pub adds : AddsEvent events (Released (release slot commits)) was now
 
 -- It has seen all events, and then what it acquired.
-abbrev pub ChangesSight : Option Acquisition → List SlotEvent → SlotSight → SlotSight → Type 0
-ChangesSight None events was now = SeesEvents events was now
-ChangesSight (Some one) events was now = AddsEvent events (Acquired one) was now
+abbrev pub AcquiresSight : Option Acquisition → List SlotEvent → SlotSight → SlotSight → Type 0
+AcquiresSight None events was now = SeesEvents events was now
+AcquiresSight (Some one) events was now = AddsEvent events (Acquired one) was now
+
+-- And then what was confirmed.
+abbrev pub ConfirmsSight : Option Confirmation → List SlotEvent → SlotSight → SlotSight → Type 0
+ConfirmsSight None events was now = now ≡ was
+ConfirmsSight (Some one) events was now = AddsEvent events (Confirmed one) was now
+
+pub record ChangesSight (acquired : Option Acquisition) (confirmed : Option Confirmation) (events : List SlotEvent)
+    (was now : SlotSight) : Type 0 where
+  pub between : SlotSight
+  pub acquires : AcquiresSight acquired events was between
+  pub confirms : ConfirmsSight confirmed (events_with acquired events) between now
 
 -- What was lent is of a log that the connection has then seen, with a slot for each subscription.
 pub record IsStreamed {U A : Type 0}
     (did : U → U → Book → Book → List ConnectionState → List ConnectionState → ℕ → Option Acquisition → A → Type 0)
-    (checked : CheckedOf) (before after : U) (old new : Sight) (was now : SlotSight) (answer : A) : Type 0 where
+    (checked : CheckedOf) (before after : U) (old new : Sight) (was now : SlotSight) (answer : A) (permit : Option ℕ) :
+    Type 0 where
   pub number : ℕ
   pub acquired : Option Acquisition
+  pub confirmed : Option Confirmation
   pub lent : IsLent (λ user left book changed connections others it.
       did user left book changed connections others number acquired it) checked before after answer
   pub log : List ReceiptOf
@@ -184,8 +228,12 @@ pub record IsStreamed {U A : Type 0}
   pub events : List SlotEvent
   pub used : AreInUse (use_after events) (book_slots lent.old)
   pub each : length (book_slots lent.old) ≡ length checked.catalog.subscriptions
+  pub found : AreConfirmed (confirmed_after events) (book_slots lent.old)
+  pub mine : MayNote acquired confirmed was.held
   pub number_is : number ≡ acquisitions events + 1
-  pub changes : ChangesSight acquired events was now
+  pub changes : ChangesSight acquired confirmed events was now
+  pub known : AreConfirmed (confirmed_after (events_then confirmed (events_with acquired events))) (book_slots lent.new)
+  pub permit_is : permit ≡ permit_for acquired
 
 pub record IsNotStreamed {U : Type 0} (before after : U) (old new : Sight) (was now : SlotSight) : Type 0 where
   pub user : after ≡ before
@@ -194,7 +242,7 @@ pub record IsNotStreamed {U : Type 0} (before after : U) (old new : Sight) (was 
 
 abbrev pub IsStreamedIf : {U A : Type 0}
     → (U → U → Book → Book → List ConnectionState → List ConnectionState → ℕ → Option Acquisition → A → Type 0)
-    → CheckedOf → U → U → Sight → Sight → SlotSight → SlotSight → Option A → Type 0
+    → CheckedOf → U → U → Sight → Sight → SlotSight → SlotSight → Option (A × Option ℕ) → Type 0
 IsStreamedIf did checked before after old new was now None = IsNotStreamed before after old new was now
-IsStreamedIf did checked before after old new was now (Some answer) =
-    IsStreamed did checked before after old new was now answer
+IsStreamedIf did checked before after old new was now (Some answered) =
+    IsStreamed did checked before after old new was now answered.0 answered.1

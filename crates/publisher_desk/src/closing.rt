@@ -57,7 +57,7 @@ impl<P: Publishing> Closing<P> {
     ghost use Rattle.publisher_desk.specs.Logged.{AreSeatsIn};
     ghost use Rattle.publisher_desk.specs.Receipts.{transactions_of};
     ghost use Rattle.publisher_desk.specs.Sights.{StartsWith};
-    ghost use Rattle.publisher_desk.specs.SlotEvents.{acquisitions, use_after};
+    ghost use Rattle.publisher_desk.specs.SlotEvents.{AreConfirmed, AreInTurn, acquisitions, confirmed_after, no_position, no_use, use_after};
     ghost use Rattle.publisher_desk.specs.Viewers.{IsSeenIn, ShareNoAcquisition};
 
     /// What memory is taken from.
@@ -73,13 +73,17 @@ impl<P: Publishing> Closing<P> {
     }
 
     /// The book: it is of the checked catalog, and of the transactions of the log. Its slots in use are those that
-    /// streams have acquired and not released.
+    /// streams have acquired and not released, and each is confirmed up to the position of its last confirmation. A
+    /// slot was acquired only while it was free, and confirmed and released only while it was in use, and what was
+    /// confirmed never went back.
     pub fn book(&self) -> &Book
         ensures named { book_checked result.now ≡ P.checked }
         ensures limited { book_limit result.now ≡ P.limit }
         ensures stands { StandsFor result.now (transactions_of self.now.log) }
         ensures slots { book_slots result.now ≡ self.now.slots }
         ensures used { AreInUse (use_after self.now.events) self.now.slots }
+        ensures confirmed { AreConfirmed (confirmed_after self.now.events) self.now.slots }
+        ensures turns { AreInTurn no_use no_position self.now.events }
     {
         &self.book
     }

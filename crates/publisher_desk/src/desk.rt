@@ -12,6 +12,7 @@ use crate::connection_state::ConnectionState;
 use crate::history::{History, HistoryToken};
 use crate::naming::Publishing;
 use crate::note::copy_found;
+use crate::permit::Permit;
 use crate::receipt::Receipt;
 use crate::slot_event::Release;
 use crate::slot_history::{SlotHistory, SlotToken};
@@ -156,7 +157,7 @@ impl<P: Publishing> Desk<P> {
     ghost use Rattle.publisher_desk.specs.Refusals.{HasFault};
     ghost use Rattle.publisher_desk.specs.Sights.{StartsWith, sight_of, view_of};
     ghost use Rattle.publisher_desk.specs.SlotSights.{BeginsWith, slot_sight_of, slot_view};
-    ghost use Rattle.publisher_desk.specs.Viewers.{Holds, IsShown, IsStreamedIf, Releases, SeesLog, SeesSlots};
+    ghost use Rattle.publisher_desk.specs.Viewers.{Holds, HoldsIf, IsShown, IsStreamedIf, Releases, SeesLog, SeesSlots};
 
     /// A book without commits, of which nothing was sent.
     pub(crate) fn new(
@@ -390,33 +391,33 @@ impl<P: Publishing> Desk<P> {
         self.slots.look(slots);
     }
 
-    /// Lets the task of a connection use the book and the state of each slot's connection, and acquire a slot. The
-    /// connection has then seen the log and all events. Nothing is done after more acquisitions than a number of 64
-    /// bits counts.
-    #[tactic(auto, using(crate::proofs::SlotLemmas::unacquired_events, crate::proofs::SlotLemmas::acquired_events))]
+    /// Lets the task of a connection use the book and the state of each slot's connection, acquire a slot, and confirm
+    /// a position for the one that the connection has. The connection has then seen the log and all events. Returns the
+    /// permit of the slot that was acquired with the answer. Nothing is done after more acquisitions than a number of
+    /// 64 bits counts.
+    #[tactic(auto, using(crate::proofs::StreamLemmas::streamed_events))]
     pub(crate) fn with_stream<U: StreamTask>(
         &mut self,
         token: &mut Option<HistoryToken<P>>,
         slots: &mut Option<SlotToken<P>>,
         user: &mut U,
-    ) -> Option<U::Answer>
+    ) -> Option<(U::Answer, Option<Permit>)>
+        requires { HoldsIf (slot_sight_of slots.old).held (U.slot user.old) }
         ensures log { self.new ≡ self.old }
         ensures used { IsStreamedIf U.did P.checked user.old user.new (sight_of token.old) (sight_of token.new)
             (slot_sight_of slots.old) (slot_sight_of slots.new) result }
     {
         let number = self.slots.next_number()?;
         self.book.has_each_slot();
-        let (answer, acquired) = user.use_stream(
+        let (answer, acquired, confirmed) = user.use_stream(
             &mut self.book,
             self.connections.as_mut_slice(),
             number,
         );
+        let permit = Permit::of(&acquired);
         self.history.look(token);
-        match acquired {
-            None => self.slots.look(slots),
-            Some(one) => self.slots.acquire(slots, one, number),
-        }
-        Some(answer)
+        self.slots.note(slots, acquired, number, confirmed);
+        Some((answer, permit))
     }
 
     /// Releases the slot that the connection has. The connection has then seen the log, as it is now, and all events.

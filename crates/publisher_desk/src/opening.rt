@@ -15,8 +15,8 @@ use std::sync::ledger::Blank;
 pub(crate) const SEATS: u64 = 1_000;
 
 /// The ledger and the histories of a publisher that is not named yet: the ledger counts its commits, one history ties
-/// receipts and readings to its log, and the other tells which streams have had its slots. Contracts see their names,
-/// and the number of the ledger's parts, 1,000.
+/// receipts and readings to its log, and the other tells which streams have had its slots, and what they confirmed.
+/// Contracts see their names, and the number of the ledger's parts, 1,000.
 #[derive(Drop)]
 pub struct Opening {
     pub(crate) blank: Blank,

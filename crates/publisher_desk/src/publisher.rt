@@ -9,6 +9,7 @@ use crate::moved::Moved;
 use crate::naming::Publishing;
 use crate::note::{Note, Reading};
 use crate::opening::Opening;
+use crate::permit::Permit;
 use crate::read_fault::ReadFault;
 use crate::seat::Seat;
 use crate::seats::Seats;
@@ -70,7 +71,7 @@ impl<P: Publishing> Publisher<P> {
     ghost use Rattle.publisher_desk.specs.Seats.{AreUpTo, receipts};
     ghost use Rattle.publisher_desk.specs.Sights.{StartsWith};
     ghost use Rattle.publisher_desk.specs.SlotSights.{BeginsWith};
-    ghost use Rattle.publisher_desk.specs.Viewers.{HasReleased, Holds, IsUsedIf, SeesMore, log_seen};
+    ghost use Rattle.publisher_desk.specs.Viewers.{HasReleased, Holds, HoldsIf, IsUsedIf, SeesMore, log_seen};
     ghost use Rattle.publisher_desk.specs.declared.note.Note.TheVariants.{Committed, Looked};
 
     /// A publisher without commits, whose log takes at most `limit` of them, and the 1,000 seats of its sessions.
@@ -332,15 +333,18 @@ impl<P: Publishing> Publisher<P> {
         answer
     }
 
-    /// Lets the task of a connection use the book and the state of each slot's connection, under the lock, and acquire
-    /// a slot that is free, which the connection then has. The book's log is the one that the viewer has then seen.
-    /// None if so many streams have acquired slots that a number of 64 bits counts no more; then nothing is done.
+    /// Lets the task of a connection use the book and the state of each slot's connection, under the lock, acquire a
+    /// slot that is free, which the connection then has, and confirm a position for the slot that it has. Returns the
+    /// task's answer, and the permit of the slot if it acquired one. The book's log is the one that the viewer has then
+    /// seen, and its slots are confirmed as the events say that it has then seen. None if so many streams have acquired
+    /// slots that a number of 64 bits counts no more; then nothing is done.
     pub fn with_stream<U: StreamTask, R: Wait>(
         &self,
         rt: &R,
         viewer: &mut Viewer<P>,
         user: &mut U,
-    ) -> Option<U::Answer>
+    ) -> Option<(U::Answer, Option<Permit>)>
+        requires { HoldsIf viewer.old.held (U.slot user.old) }
         ensures used { IsUsedIf U.did P.checked viewer.old viewer.new user.old user.new result }
         ensures more { SeesMore viewer.old viewer.new }
     {
@@ -353,14 +357,15 @@ impl<P: Publishing> Publisher<P> {
         answer
     }
 
-    /// Releases the slot that the connection has: from now on another may acquire it. The release has the number of
-    /// commits that the connection has then seen, which is never above that of the log.
-    pub fn release<R: Wait>(&self, rt: &R, viewer: &mut Viewer<P>, slot: SlotNumber)
-        requires { Holds viewer.old.held slot }
+    /// Releases the slot that the connection has, whose permit it gives back: from now on another may acquire it. The
+    /// release has the number of commits that the connection has then seen, which is never above that of the log.
+    pub fn release<R: Wait>(&self, rt: &R, viewer: &mut Viewer<P>, permit: Permit)
+        requires { Holds viewer.old.held permit }
         ensures released { HasReleased viewer.old viewer.new }
         ensures more { SeesMore viewer.old viewer.new }
     {
         let Viewer { token, slots } = viewer;
+        let slot = permit.into_slot();
         self.desk.lock(rt).release(token, slots, slot);
     }
 

@@ -11,6 +11,13 @@ pub struct Acquisition {
     pub is_requested: bool,
 }
 
+/// A position up to which a client confirmed the log, on the stream that has the slot.
+#[derive(Clone, Copy, Debug, PartialEq, Eq)]
+pub struct Confirmation {
+    pub slot: SlotNumber,
+    pub position: Lsn,
+}
+
 /// A slot that was released, and the number of commits that the log then had.
 #[derive(Clone, Copy, Debug, PartialEq, Eq)]
 pub struct Release {
@@ -18,11 +25,13 @@ pub struct Release {
     pub commits: CommitNumber,
 }
 
-/// What happens to a slot: a stream acquires it, or releases it.
+/// What happens to a slot: a stream acquires it, its client confirms the log up to a position, or the stream releases
+/// it.
 ///
 /// PostgreSQL 15, 27.2.6 Replication Slots.
 #[derive(Clone, Copy, Debug, PartialEq, Eq)]
 pub enum SlotEvent {
     Acquired(Acquisition),
+    Confirmed(Confirmation),
     Released(Release),
 }

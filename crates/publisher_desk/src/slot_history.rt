@@ -3,7 +3,7 @@
 ghost use Rattle.std.specs.Prelude.{◌≡◌};
 
 use crate::naming::Publishing;
-use crate::slot_event::{Acquisition, Release, SlotEvent};
+use crate::slot_event::{Acquisition, Confirmation, Release, SlotEvent};
 use crate::slot_sight::{
     AddsSlots, BeginsSlots, ChecksSlots, KeepsSlots, PassesSlots, ShowsSlots, SlotView,
 };
@@ -59,9 +59,10 @@ impl<P: Publishing> Model for SlotHistory<P> {
 impl<P: Publishing> SlotHistory<P> {
     ghost use Rattle.std.specs.Prelude.{◌≡◌, ◌+◌, ◌<◌, ◌≤◌, ℕ, [], ◌∷◌, ◌++◌, length, true, IfSome};
     ghost use Rattle.publisher_desk.specs.Sights.{times};
-    ghost use Rattle.publisher_desk.specs.SlotEvents.{acquisitions};
+    ghost use Rattle.publisher_desk.specs.SlotEvents.{acquisitions, events_then, events_with};
+    ghost use Rattle.publisher_desk.specs.Viewers.{AcquiresSight, ChangesSight, MayNote};
     ghost use Rattle.publisher_desk.specs.SlotSights.{AddsEvent, AreKnown, BeginsWith, MayHappen, SeesEvents, added, first_in, left, owned_in, shown, slot_sight_of, slot_view};
-    ghost use Rattle.publisher_desk.specs.declared.slot_event.SlotEvent.TheVariants.{Acquired, Released};
+    ghost use Rattle.publisher_desk.specs.declared.slot_event.SlotEvent.TheVariants.{Acquired, Confirmed, Released};
 
     /// A history without events.
     pub(crate) fn new(
@@ -201,6 +202,64 @@ impl<P: Publishing> SlotHistory<P> {
         self.take_in(token);
         self.add(&SlotEvent::Acquired(one), number);
         *token = Some(self.give_back());
+    }
+
+    /// The client of the connection that has the slot confirms a position.
+    pub(crate) fn confirm(&mut self, token: &mut Option<SlotToken<P>>, one: Confirmation)
+        requires idle { self.old ≡ slot_view true self.old.all [] }
+        requires may { MayHappen (Confirmed one) self.old.all (slot_sight_of token.old).held }
+        ensures log { self.new ≡ slot_view true (self.old.all ++ Confirmed one ∷ []) [] }
+        ensures seen { AddsEvent self.old.all (Confirmed one) (slot_sight_of token.old) (slot_sight_of token.new) }
+    {
+        let count = self.count;
+        self.take_in(token);
+        self.add(&SlotEvent::Confirmed(one), count);
+        *token = Some(self.give_back());
+    }
+
+    /// Shows the events to the connection, which acquires a slot if one is named. This is the acquisition of this
+    /// number.
+    fn acquire_if(
+        &mut self,
+        token: &mut Option<SlotToken<P>>,
+        acquired: Option<Acquisition>,
+        number: u64,
+    )
+        requires idle { self.old ≡ slot_view true self.old.all [] }
+        requires may { (one : _) → acquired ≡ Some one
+            → MayHappen (Acquired one) self.old.all (slot_sight_of token.old).held }
+        requires number { number ≡ acquisitions self.old.all + 1 }
+        ensures log { self.new ≡ slot_view true (events_with acquired self.old.all) [] }
+        ensures seen { AcquiresSight acquired self.old.all (slot_sight_of token.old) (slot_sight_of token.new) }
+    {
+        match acquired {
+            None => self.look(token),
+            Some(one) => self.acquire(token, one, number),
+        }
+    }
+
+    /// Does what `acquire_if` does. Then the client of the connection confirms a position, if one is named, for the
+    /// slot that the connection then has.
+    pub(crate) fn note(
+        &mut self,
+        token: &mut Option<SlotToken<P>>,
+        acquired: Option<Acquisition>,
+        number: u64,
+        confirmed: Option<Confirmation>,
+    )
+        requires idle { self.old ≡ slot_view true self.old.all [] }
+        requires may { (one : _) → acquired ≡ Some one
+            → MayHappen (Acquired one) self.old.all (slot_sight_of token.old).held }
+        requires mine { MayNote acquired confirmed (slot_sight_of token.old).held }
+        requires number { number ≡ acquisitions self.old.all + 1 }
+        ensures log { self.new ≡ slot_view true (events_then confirmed (events_with acquired self.old.all)) [] }
+        ensures seen { ChangesSight acquired confirmed self.old.all (slot_sight_of token.old)
+            (slot_sight_of token.new) }
+    {
+        self.acquire_if(token, acquired, number);
+        if let Some(one) = confirmed {
+            self.confirm(token, one);
+        }
     }
 
     /// The connection that has the slot releases it.

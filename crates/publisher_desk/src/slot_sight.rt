@@ -5,12 +5,15 @@ ghost use Rattle.std.specs.Prelude.{◌≡◌};
 use crate::slot_event::{Acquisition, SlotEvent};
 use atomic_table::{Join, Play, Split, TableRule};
 use std::collections::LinkedList;
+use tables_log::Lsn;
 
-/// An acquisition of a slot, and its number among all acquisitions, from 1. It is only for proofs: no value of it is
-/// made.
+/// An acquisition of a slot, its number among all acquisitions, from 1, and up to where the slot was confirmed when it
+/// was acquired, and is now. It is only for proofs: no value of it is made.
 pub struct Hold {
     pub acquisition: Acquisition,
     pub number: u64,
+    pub found: Lsn,
+    pub confirmed: Lsn,
 }
 
 /// The first events that a connection has seen, the slot that it has, if it has one, and the numbers of its own

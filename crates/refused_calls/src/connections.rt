@@ -1,7 +1,9 @@
 //! A client's end of a connection over memory.
 
+ghost use Rattle.std.specs.Prelude.{◌≡◌, true, length, IfOk, MatchResult};
+
 use crate::refusals::was_refused;
-use senders::{Failed, Sink, Source};
+use senders::{Failed, Permit, Sink, Source};
 use std::alloc::{AllocError, Global};
 use std::sync::atomic::{AtomicU64, Ordering};
 use std::thread;
@@ -103,6 +105,7 @@ pub struct Kept<'a> {
     getting: &'a Getting,
     pub bytes: Vec<u8>,
     failed: bool,
+    refused: bool,
 }
 
 impl<'a> Kept<'a> {
@@ -111,14 +114,17 @@ impl<'a> Kept<'a> {
             getting,
             bytes: Vec::with_capacity(alloc, ROOM)?,
             failed: false,
+            refused: false,
         })
     }
-}
 
-impl Sink for Kept<'_> {
-    ghost has_failed = { λ sink. sink.failed };
-
-    fn push(&mut self, bytes: &[u8]) -> Result<usize, Failed> {
+    /// Takes all bytes, and returns how many these are.
+    fn take(&mut self, bytes: &[u8]) -> Result<usize, Failed>
+        ensures count { IfOk result (λ count. count ≡ length bytes.now) }
+        ensures failed { MatchResult result (λ count. self.new.failed ≡ self.old.failed)
+            (λ failed. self.new.failed ≡ true) }
+        ensures refused { self.new.refused ≡ self.old.refused }
+    {
         if self.bytes.extend_from_slice(bytes).is_err() {
             self.failed = true;
             return Err(Failed);
@@ -127,6 +133,21 @@ impl Sink for Kept<'_> {
             .got
             .fetch_add(bytes.len() as u64, Ordering::SeqCst);
         Ok(bytes.len())
+    }
+}
+
+impl Sink for Kept<'_> {
+    ghost has_failed = { λ sink. sink.failed };
+
+    ghost has_refused = { λ sink. sink.refused };
+
+    fn push(&mut self, bytes: &[u8], _permit: &Permit) -> Result<usize, Failed> {
+        self.take(bytes)
+    }
+
+    fn refuse(&mut self, bytes: &[u8]) -> Result<usize, Failed> {
+        self.refused = true;
+        self.take(bytes)
     }
 
     fn failed(&self) -> bool {

@@ -1,10 +1,11 @@
 //! What is done with publishers before they are closed, and how they are closed then.
 
 use crate::cases::Step::{
-    Commit, Confirm, LoseFirst, LoseLast, LoseSeat, Read, Request, Reverse, Serve, ServeConfirming,
+    Commit, LoseFirst, LoseLast, LoseSeat, Read, Request, RequestConfirming, Reverse, Serve,
+    ServeConfirming,
 };
 use senders::CloseError;
-use senders::CloseError::{ConnectionMissing, CountDiffers, SlotDiffers, StartLate, TakenDiffers};
+use senders::CloseError::{ConnectionMissing, CountDiffers, TakenDiffers};
 
 /// What is done with a publisher, which has one session. Connections are of the first slot.
 #[derive(Clone, Copy, Debug, PartialEq, Eq)]
@@ -13,8 +14,6 @@ pub(crate) enum Step {
     Commit,
     /// The session reads a row 100,000 times.
     Read,
-    /// The slot is confirmed up to the end of the first commit, which no client does.
-    Confirm,
     /// A connection that starts where the slot is confirmed is served until it is finished. Its client confirms
     /// nothing.
     Serve,
@@ -22,6 +21,8 @@ pub(crate) enum Step {
     ServeConfirming,
     /// The client of the connection requests to start after the second commit, and confirms nothing.
     Request,
+    /// The same, but it confirms the second commit.
+    RequestConfirming,
     /// The results of the connections are put in the opposite order.
     Reverse,
     /// The result of the connection that started first is lost.
@@ -50,18 +51,11 @@ pub(crate) const CASES: &[Case] = &[
         &[Commit, ServeConfirming, Serve, LoseLast],
         Some(ConnectionMissing),
     ),
-    (&[Commit, Commit, Confirm, Serve], Some(StartLate)),
-    // A commit that was sent, but that no client confirmed, does not account for a later start.
-    (&[Commit, Serve, Confirm, Serve], Some(StartLate)),
-    // A request accounts for the commits before its position only if its stream started first.
-    (&[Commit, Commit, Request, Confirm, Serve, Reverse], None),
-    (
-        &[Commit, Commit, Confirm, Serve, Request, Reverse],
-        Some(StartLate),
-    ),
-    // The same if no connection starts after the slot is confirmed.
-    (&[Commit, Commit, Confirm], Some(SlotDiffers)),
-    (&[Commit, Serve, Confirm], Some(SlotDiffers)),
-    (&[Commit, ServeConfirming, Confirm], None),
-    (&[Commit, Commit, Request, Confirm], None),
+    (&[Commit, ServeConfirming], None),
+    // A request accounts for the commits before its position, if its client then confirms them, too.
+    (&[Commit, Commit, Request, Serve, Reverse], None),
+    (&[Commit, Commit, Serve, Request, Reverse], None),
+    (&[Commit, Commit, RequestConfirming], None),
+    (&[Commit, Commit, RequestConfirming, Serve, Reverse], None),
+    (&[Commit, Commit, ServeConfirming, Request, Serve], None),
 ];

@@ -7,7 +7,6 @@ use crate::devices::{Kept, Staying};
 use crate::memory::query;
 use crate::sessions::take_seats;
 use crate::work::{Hold, Work, key_of};
-use publisher_desk::{ConnectionState, SlotTask};
 use senders::{End, OpenGate, Publisher, Publishing, Seat, Seats, Served, close, serve};
 use std::alloc::Global;
 use std::process::Abort;
@@ -15,7 +14,6 @@ use std::sync::Wait;
 use std::test::Fail;
 use std::thread::Threads;
 use std::time::Clock;
-use tables_log::{Book, Lsn};
 
 /// The Query of a client that requests the stream of the first slot from the end of the second commit.
 const AFTER_SECOND: &[u8] = b"Q\0\0\0\x5bSTART_REPLICATION SLOT \"s0\" LOGICAL 0/C0 \
@@ -25,26 +23,15 @@ const AFTER_SECOND: &[u8] = b"Q\0\0\0\x5bSTART_REPLICATION SLOT \"s0\" LOGICAL 0
 const CONFIRMS_FIRST: &[u8] =
     b"d\0\0\0\x26r\0\0\0\0\0\0\0\0\0\0\0\0\0\0\0\x80\0\0\0\0\0\0\0\0\0\0\0\0\0\0\0\0\0";
 
+/// The status of a client that confirms the second commit.
+const CONFIRMS_SECOND: &[u8] =
+    b"d\0\0\0\x26r\0\0\0\0\0\0\0\0\0\0\0\0\0\0\0\xc0\0\0\0\0\0\0\0\0\0\0\0\0\0\0\0\0\0";
+
 /// How often a row is read.
 const READINGS: u32 = 100_000;
 
 /// How many connections are served at most until one is finished.
 const TRIES: u32 = 100;
-
-/// Confirms the first slot up to the end of the first commit, without a client.
-#[derive(Drop)]
-struct ConfirmFirst;
-
-impl SlotTask for ConfirmFirst {
-    type Answer = bool;
-
-    ghost did = { λ _ _ _ _ _ _ _. Unit {0} };
-
-    fn use_slots(&mut self, book: &mut Book, _connections: &mut [ConnectionState]) -> bool {
-        let end = Lsn::end_of_commit(book.log_len());
-        book.confirm(0, 128, end.to_u64()).is_ok()
-    }
-}
 
 /// The result of a connection of the first slot whose client sends this Query, then, when its sender has had some time,
 /// these later bytes, and then closes.
@@ -160,7 +147,6 @@ fn take<P: Publishing + Sync, R: Threads + Wait + Clock + Abort + Sync>(
     match step {
         Step::Commit => commit(rt, alloc, publisher, seats)?,
         Step::Read => read_often(rt, alloc, publisher, seats)?,
-        Step::Confirm => holds(rt, publisher.with_slots(rt, &mut ConfirmFirst)),
         Step::Serve => serve_next(rt, alloc, publisher, &[], served)?,
         Step::ServeConfirming => {
             serve_next(rt, alloc, publisher, CONFIRMS_FIRST, served)?;
@@ -168,6 +154,10 @@ fn take<P: Publishing + Sync, R: Threads + Wait + Clock + Abort + Sync>(
         }
         Step::Request => {
             serve_finished(rt, alloc, publisher, AFTER_SECOND, &[], served)?;
+        }
+        Step::RequestConfirming => {
+            serve_finished(rt, alloc, publisher, AFTER_SECOND, CONFIRMS_SECOND, served)?;
+            same(rt, greatest_confirmed(served.as_slice()), 192);
         }
         Step::Reverse => served.as_mut_slice().reverse(),
         Step::LoseFirst => lose_first(served),

@@ -1,12 +1,12 @@
 //! Sources and sinks over memory.
 
-ghost use Rattle.std.specs.Prelude.{◌≡◌, false, true};
+ghost use Rattle.std.specs.Prelude.{◌≡◌, ◌<◌, ◌≤◌, false, true, length, IfOk, MatchResult};
 
 use crate::board::{Board, GRACE, LOST};
 use crate::clients::{hears, subscriber};
 use crate::phrases::{before_done, keepalives};
 use crate::work::Hold;
-use senders::{Failed, Sink, Source};
+use senders::{Failed, Permit, Sink, Source};
 use std::thread;
 use std::time::{Clock, Duration};
 use test_subscriber::Subscriber;
@@ -175,6 +175,7 @@ pub(crate) struct Kept<'a, C> {
     pub(crate) pushes: usize,
     pub(crate) longest: usize,
     failed: bool,
+    refused: bool,
 }
 
 impl<'a, C: Clock> Kept<'a, C> {
@@ -197,6 +198,7 @@ impl<'a, C: Clock> Kept<'a, C> {
             pushes: 0,
             longest: 0,
             failed: false,
+            refused: false,
         }
     }
 
@@ -216,7 +218,8 @@ impl<'a, C: Clock> Kept<'a, C> {
 
     /// Fails.
     fn fail(&mut self) -> Failed
-        ensures { self.new.failed ≡ true }
+        ensures failed { self.new.failed ≡ true }
+        ensures refused { self.new.refused ≡ self.old.refused }
     {
         self.failed = true;
         self.board.gets(self.slot, LOST);
@@ -225,7 +228,8 @@ impl<'a, C: Clock> Kept<'a, C> {
 
     /// Hears these bytes, and reports the progress if they are a whole push.
     fn hear(&mut self, bytes: &[u8], are_all: bool)
-        ensures { self.new.failed ≡ self.old.failed }
+        ensures failed { self.new.failed ≡ self.old.failed }
+        ensures refused { self.new.refused ≡ self.old.refused }
     {
         self.pushes = self.pushes.saturating_add(1);
         self.longest = self.longest.max(bytes.len());
@@ -239,12 +243,15 @@ impl<'a, C: Clock> Kept<'a, C> {
             self.board.is_answered(self.slot, keepalives(bytes));
         }
     }
-}
 
-impl<C: Clock> Sink for Kept<'_, C> {
-    ghost has_failed = { λ sink. sink.failed };
-
-    fn push(&mut self, bytes: &[u8]) -> Result<usize, Failed> {
+    /// Takes the first of the bytes, and returns how many it took.
+    fn take(&mut self, bytes: &[u8]) -> Result<usize, Failed>
+        ensures some { IfOk result (λ count. 0 < count) }
+        ensures bound { IfOk result (λ count. count ≤ length bytes.now) }
+        ensures failed { MatchResult result (λ count. self.new.failed ≡ self.old.failed)
+            (λ failed. self.new.failed ≡ true) }
+        ensures refused { self.new.refused ≡ self.old.refused }
+    {
         self.hold();
         let count = bytes.len().min(self.room).min(self.most);
         if count == 0 || self.bytes.extend_from_slice(&bytes[..count]).is_err() {
@@ -253,6 +260,21 @@ impl<C: Clock> Sink for Kept<'_, C> {
         self.room -= count;
         self.hear(&bytes[..count], count == bytes.len());
         Ok(count)
+    }
+}
+
+impl<C: Clock> Sink for Kept<'_, C> {
+    ghost has_failed = { λ sink. sink.failed };
+
+    ghost has_refused = { λ sink. sink.refused };
+
+    fn push(&mut self, bytes: &[u8], _permit: &Permit) -> Result<usize, Failed> {
+        self.take(bytes)
+    }
+
+    fn refuse(&mut self, bytes: &[u8]) -> Result<usize, Failed> {
+        self.refused = true;
+        self.take(bytes)
     }
 
     fn failed(&self) -> bool {

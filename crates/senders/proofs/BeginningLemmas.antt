@@ -1,5 +1,5 @@
 -- A log that goes on has the commits that its beginning had at their places, and events that go on keep what happened.
-use Rattle.std.proofs.Common.{◌≡◌, ℕ, zero, suc, ◌+◌, ◌≤◌, Bool, Option, Some, None, List, [], ◌∷◌, ◌++◌, length, sym, ◌∙◌, ap, subst, arith, length-append, append_assoc}
+use Rattle.std.proofs.Common.{◌≡◌, ℕ, zero, suc, ◌+◌, ◌≤◌, max, Bool, Option, Some, None, List, [], ◌∷◌, ◌++◌, length, sym, ◌∙◌, ap, subst, arith, length-append, append_assoc}
 use Rattle.std.specs.Prelude.{fold, slice_get}
 use Rattle.shard_checker.specs.CheckedView.{CheckedOf, setting_in}
 use Rattle.table_changes.specs.Records.{record_of}
@@ -89,14 +89,22 @@ had_longer all events held commits (rest, is) had = record {
       ∙ two_within had.before had.between had.after rest (Acquired held.acquisition)
       (Released (release held.acquisition.slot commits));
   number_is = had.number_is;
-  alone = had.alone;
+  was_free = had.was_free;
+  keep = had.keep;
+  found_is = had.found_is;
+  confirmed_is = had.confirmed_is;
 }
 
-pub stream_longer : (slot start : Option ℕ) (is_requested : Bool) (number commits : ℕ) (all events : List SlotEvent)
-    → BeginsWith all events → HadStream slot start is_requested number commits events
-    → HadStream slot start is_requested number commits all
-stream_longer (Some slot) (Some start) is_requested number commits all events begins had =
-    had_longer all events (hold (acquisition slot start is_requested) number) commits begins had
-stream_longer None None is_requested number commits all events begins had = had
-stream_longer (Some slot) None is_requested number commits all events begins had = absurd had
-stream_longer None (Some start) is_requested number commits all events begins had = absurd had
+pub stream_longer : (slot start : Option ℕ) (is_requested : Bool) (number confirmed commits : ℕ)
+    (all events : List SlotEvent) → BeginsWith all events
+    → HadStream slot start is_requested number confirmed commits events
+    → HadStream slot start is_requested number confirmed commits all
+stream_longer (Some slot) (Some start) is_requested number confirmed commits all events begins had = record {
+  found = had.found;
+  had = had_longer all events (hold (acquisition slot start is_requested) number had.found (max had.found confirmed))
+      commits begins had.had;
+  from = had.from;
+}
+stream_longer None None is_requested number confirmed commits all events begins had = had
+stream_longer (Some slot) None is_requested number confirmed commits all events begins had = absurd had
+stream_longer None (Some start) is_requested number confirmed commits all events begins had = absurd had

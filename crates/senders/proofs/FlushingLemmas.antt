@@ -11,9 +11,11 @@ use Rattle.copy_both.proofs.VoiceStreams.{voice_passes_on}
 use Rattle.senders.specs.Flushing.{Flushes}
 
 -- Some of it was flushed, and the sink says of itself what it said.
-pub record IsFlushing (before after : Option (List ℕ)) (was_failed failed : Bool) (old new : Voice) : Type 0 where
+pub record IsFlushing (before after : Option (List ℕ)) (was_failed failed was_refused refused : Bool)
+    (old new : Voice) : Type 0 where
   pub flushes : Flushes before after old new
   pub same : failed ≡ was_failed
+  pub unrefused : refused ≡ was_refused
 
 pub flushes_none : (known : Option (List ℕ)) (voice : Voice) → Flushes known known voice voice
 flushes_none known voice = record { bytes = []; whole = refl; checked = refl; stage_is = refl; put = Appends-nil known }

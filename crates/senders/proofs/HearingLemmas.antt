@@ -1,18 +1,21 @@
 -- What a listener has heard, piece by piece.
-use Rattle.std.proofs.Common.{◌≡◌, ◌≤◌, ℕ, min, List, [], ◌++◌, length, refl, sym, ◌∙◌, ap, subst, append_assoc, append-nil, arith}
+use Rattle.std.proofs.Common.{◌≡◌, ◌<◌, ◌≤◌, ℕ, min, List, [], ◌++◌, length, refl, sym, ◌∙◌, ap, subst, append_assoc, append-nil, arith}
 use Rattle.std.specs.Prelude.{Bool, true, Option, Some, None, Result, Ok, Err, IfErr, slice_get}
 use Rattle.std.proofs.Math.Nat.{le-max_left}
 use Rattle.std.proofs.KnownBytes.{Consumes-nil, Consumes-trans}
+use Rattle.std.proofs.lemmas.Option.{slice_get_within}
 use Rattle.shard_checker.specs.CheckedView.{CheckedOf, setting_in}
 use Rattle.table_changes.specs.Tables.{no_rows}
-use Rattle.tables_log.specs.BookView.{book_log}
+use Rattle.tables_log.specs.BookView.{book_log, book_slots}
 use Rattle.tables_log.specs.Lsn.{end_lsn_of}
+use Rattle.tables_log.specs.Slots.{confirmed_at}
 use Rattle.tables_log.specs.StandsFor.{AreAccepted}
 use Rattle.tables_log.specs.declared.book.Book.{Book}
+use Rattle.tables_log.specs.declared.slots.Slot.{Slot}
 use Rattle.tables_log.proofs.StandLemmas.{each_is_logged}
 use Rattle.copy_frames.specs.Frames.{cut, frames_of, rest_of}
 use Rattle.copy_both.specs.Ears.{ear_confirmed, ear_refusal, ear_started}
-use Rattle.copy_both.specs.HeardFrames.{AsksIfStarted, BooksOf, GoesOnOrEnds, HasLinkFault, HasHeard, Explains, IsAnswered, IsBookFor, frames_in, reach_of, sent_then, IsStartedBy}
+use Rattle.copy_both.specs.HeardFrames.{AsksFor, AsksIfStarted, BooksOf, GoesOnOrEnds, HasLinkFault, HasHeard, Explains, IsAnswered, IsBookFor, frames_in, reach_of, sent_then, IsStartedBy}
 use Rattle.copy_both.specs.declared.ear.Ear.{Ear}
 use Rattle.copy_both.specs.declared.heard.Heard.{Heard}
 use Rattle.copy_both.specs.declared.link_fault.LinkFault.{LinkFault}
@@ -20,17 +23,18 @@ use Rattle.copy_both.specs.declared.link_fault.LinkFault.TheVariants as fault
 use Rattle.copy_both.specs.ConfirmedFrames.{HasConfirmedAll}
 use Rattle.copy_both.proofs.ConfirmedHeard.{confirmations_are_heard}
 use Rattle.copy_both.proofs.PiecesHeard.{asks_stay, frames_more, late_starts_are_requested, pieces_are_heard, requests_stay}
-use Rattle.copy_both.specs.Hearing.{first_sent}
+use Rattle.copy_both.specs.Hearing.{ServedFrom, first_sent}
+use Rattle.copy_both.proofs.StartBounds.{faultless_start, is_begun}
 use Rattle.publisher_desk.specs.Receipts.{transactions_of}
-use Rattle.publisher_desk.specs.SlotEvents.{use_after}
-use Rattle.publisher_desk.specs.Viewers.{IsUsed, SeesMore, ViewerOf}
+use Rattle.publisher_desk.specs.SlotEvents.{confirmed_after, use_after}
+use Rattle.publisher_desk.specs.Viewers.{HoldsIf, IsUsed, SeesMore, ViewerOf}
 use Rattle.publisher_desk.specs.declared.connection_state.ConnectionState.{ConnectionState}
 use Rattle.publisher_desk.specs.declared.slot_event.Acquisition.{Acquisition}
 use Rattle.senders.specs.Hearing.{HearsPiece, IsExplained, IsSentFrom, StaysStarted, sent_after, sent_by}
 use Rattle.senders.specs.Confirming.{ConfirmsBy, ReportsIf}
-use Rattle.senders.specs.Listening.{AcquiresFor, EndsFor, EndsOf, HasListened, HeardPiece, HoldsStream, HearsLast, HearsMore, HearsNext, SaysOfPiece, SaysRequested, next_by, next_by_end, piece_of}
+use Rattle.senders.specs.Listening.{AcquiresFor, EndsFor, EndsOf, HasItsSlot, HasListened, HeardPiece, HoldsStream, HearsLast, HearsMore, HearsNext, SaysOfPiece, SaysRequested, next_by, next_by_end, piece_of, slot_of}
 use Rattle.senders.specs.Refusing.{fault_by}
-use Rattle.senders.specs.Results.{books_seen}
+use Rattle.senders.specs.Results.{StartsFrom, books_seen}
 use Rattle.senders.specs.declared.failed.Failed.{Failed}
 use Rattle.senders.specs.declared.listener.Listened.{Listened}
 use Rattle.senders.proofs.SeenLogs.{AreMore, books_more, heard_still, sees_on, sees_same}
@@ -40,8 +44,9 @@ use Rattle.senders.specs.declared.listener_end.ListenerEnd.TheVariants as listen
 use Rattle.senders.specs.declared.listener.Listener.{Listener}
 use Rattle.senders.specs.declared.next.Next.{Next}
 use Rattle.senders.specs.declared.next.Next.TheVariants as next
+use Rattle.copy_both.proofs.RaisedSlots.{Raises, hearing_raises}
 use Rattle.senders.proofs.ConfirmingLemmas.{confirms_all, confirms_lower, confirms_nothing, reports_all, reports_fault, reports_frame}
-use Rattle.senders.proofs.HoldingLemmas.{holding_after, use_among}
+use Rattle.senders.proofs.HoldingLemmas.{holding_after, mine_after, use_among}
 
 -- ---- a piece, under the lock
 
@@ -129,7 +134,8 @@ module _ (checked : CheckedOf) (was now : ViewerOf) (more : AreMore (books_seen 
   says_of_piece bytes has None none slot start started says =
       late_starts_are_requested checked known bytes (piece_of before) before.ear after.ear old new
       sent heard (has_now bytes has.heard) is did.left none slot start started
-      (did.compares.late none slot start started says)
+      (subst (StartsFrom (confirmed_at (book_slots old) slot) start) says
+      (did.compares.from none slot start started))
   says_of_piece bytes has (Some one) some slot start started says =
       let on = pieces_are_heard checked known bytes (piece_of before) before.ear after.ear old new
       sent heard (has_now bytes has.heard) is did.answer did.left in
@@ -166,14 +172,28 @@ module _ (checked : CheckedOf) (was now : ViewerOf) (more : AreMore (books_seen 
 
 -- ---- a use of the slots by a listener
 
+-- the slot of a stream that was started exists in each book of the publisher
+started_exists : (checked : CheckedOf) (viewer : ViewerOf) (bytes : List ℕ) (listener : Listener) (slots : List Slot)
+    → length slots ≡ length checked.catalog.subscriptions → HasListened checked viewer bytes listener
+    → (started : ℕ × ℕ) → ear_started listener.ear ≡ Some started → started.0 < length slots
+started_exists checked viewer bytes listener slots each has started is =
+    let asks : AsksFor checked (books_seen viewer) (frames_in bytes) started.0 started.1 =
+    subst (IsStartedBy checked (books_seen viewer) (frames_in bytes)) is has.heard.started in
+    let served : ServedFrom = record { checked = checked; commits = length (book_log asks.book) } in
+    let begun = is_begun served (book_slots asks.book) started.0 started.1 asks.frame.kind asks.frame.body asks.begins in
+    let startable = faultless_start (slice_get (book_slots asks.book) started.0) (end_lsn_of served.commits)
+    begun.position begun.no_fault in
+    let low = slice_get_within (book_slots asks.book) started.0 startable.slot startable.exists in
+    let its = asks.is.each in omega (arith, low, its, each)
+
 -- what a listener does with the book that it is lent
 abbrev pub ListenerDid : Listener → Listener → Book → Book → List ConnectionState → List ConnectionState → ℕ
     → Option Acquisition → Listened → Type 0
 ListenerDid before after old new connections left number acquired listened =
     HeardPiece before after old new connections listened.heard × AcquiresFor before after number acquired
 
-module _ (checked : CheckedOf) (was now : ViewerOf) (sees : SeesMore was now) (before after : Listener)
-    (listened : Listened) (used : IsUsed ListenerDid checked was now before after listened) where
+module _ (checked : CheckedOf) (was now : ViewerOf) (sees : SeesMore was now) (before after : Listener) (slot : Option ℕ)
+    (listened : Listened) (used : IsUsed ListenerDid checked was now before after listened slot) where
   abbrev book_was : IsBookFor checked (books_seen now) used.lent.old
   book_was = record {
     named = used.lent.named;
@@ -182,9 +202,14 @@ module _ (checked : CheckedOf) (was now : ViewerOf) (sees : SeesMore was now) (b
     stands = used.lent.stands;
     begins = record { later = []; log_is = used.log_is ∙ sym (append-nil used.lent.transactions) };
     used = use_after used.events;
-    among = use_among used.acquired used.events now.events used.events_are;
+    among = use_among used.acquired used.confirmed used.events now.events used.events_are;
     slots_are = used.used;
   }
+
+  raised : Raises (ear_started before.ear) (ear_started after.ear) (book_slots used.lent.old)
+      (book_slots used.lent.new) (ear_confirmed before.ear) (ear_confirmed after.ear)
+  raised = hearing_raises before.ear after.ear used.lent.old used.lent.new (piece_of before)
+      (sent_by (ear_started before.ear) used.lent.connections) listened.heard used.lent.does.0.left
 
   pub heard_used : HearsPiece checked was now (piece_of before) before.ear after.ear listened.heard
   heard_used = hears_piece checked was now (books_more was now sees) before after used.lent.old used.lent.new
@@ -196,9 +221,15 @@ module _ (checked : CheckedOf) (was now : ViewerOf) (sees : SeesMore was now) (b
         used.lent.new used.lent.connections listened.heard book_was used.lent.does.0 bytes has;
     confirms = λ bytes has. confirms_of checked was now (books_more was now sees) before after used.lent.old
         used.lent.new used.lent.connections listened.heard book_was used.lent.does.0 bytes has;
-    holding = λ bytes has. holding_after before after was.held now.held used.number used.acquired
-        (heard_used.each bytes has.heard).stays used.lent.does.0.compares.stays used.lent.does.1 used.held_is
-        has.holding;
+    holding = λ bytes has. holding_after before after (book_slots used.lent.old) (book_slots used.lent.new) used.events
+        now.events was.held now.held used.number used.found used.known used.had raised used.lent.does.0.compares.stays
+        used.acquired used.lent.does.1
+        (λ started is. started_exists checked was bytes before (book_slots used.lent.old) used.each has started is)
+        (λ none. subst (λ (o : Option (ℕ × ℕ)). HasConfirmedAll o (frames_in bytes) (ear_confirmed before.ear)) none
+        has.confirmed)
+        used.lent.does.0.compares.from used.held_is has.holding;
+    mine = mine_after before after was.held now.held used.number (confirmed_after used.events)
+        (confirmed_after now.events) used.acquired used.lent.does.1 raised.stays used.held_is;
     sees = sees;
   }
 
@@ -241,249 +272,6 @@ module _ (checked : CheckedOf) (was now : ViewerOf) (same : now ≡ was) (before
               (frames_of (cut 65536 (rest_of (cut 65536 bytes) ++ piece_of before))) (ear_confirmed before.ear)
               (frames_more checked (books_seen was) bytes (piece_of before) before.ear has.heard) has.confirmed;
           holding = λ bytes has. has.holding;
+          mine = λ has. has;
           sees = sees_same was;
         }))
-
--- ---- a read
-
-asks_on : (checked : CheckedOf) (known : BooksOf) (bytes : List ℕ) (started : Option (ℕ × ℕ))
-    → IsStartedBy checked known (frames_in bytes) started → AsksIfStarted checked known (frames_in bytes) started
-asks_on checked known bytes None by = tt
-asks_on checked known bytes (Some started) by = by
-
-pub has_asked : (checked : CheckedOf) (known : BooksOf) (bytes : List ℕ) (ear : Ear) → HasHeard checked known bytes ear
-    → AsksIfStarted checked known (frames_in bytes) (ear_started ear)
-has_asked checked known bytes ear has = asks_on checked known bytes (ear_started ear) has.started
-
--- with the same ear, and said of it the same
-same_listened : (checked : CheckedOf) (viewer : ViewerOf) (bytes : List ℕ) (old new : Listener) → new.ear ≡ old.ear
-    → new.is_requested ≡ old.is_requested → new.number ≡ old.number
-    → HasListened checked viewer bytes old → HasListened checked viewer bytes new
-same_listened checked viewer bytes old new same said number has = record {
-  heard = subst (HasHeard checked (books_seen viewer) bytes) (sym same) has.heard;
-  requested = λ slot start started says.
-      has.requested slot start (sym (ap ear_started same) ∙ started) (sym said ∙ says);
-  confirmed = subst (λ (ear : Ear). HasConfirmedAll (ear_started ear) (frames_in bytes) (ear_confirmed ear)) (sym same)
-      has.confirmed;
-  holding = subst (λ (ear : Ear). HoldsStream (ear_started ear) new.is_requested new.number viewer.held) (sym same)
-      (subst (λ (b : Bool). HoldsStream (ear_started old.ear) b new.number viewer.held) (sym said)
-      (subst (λ (n : ℕ). HoldsStream (ear_started old.ear) old.is_requested n viewer.held) (sym number) has.holding));
-}
-
-stays_from : (old middle new : Ear) → middle ≡ old → StaysStarted middle new → StaysStarted old new
-stays_from old middle new same stays = subst (λ (ear : Ear). StaysStarted ear new) same stays
-
-module _ (checked : CheckedOf) (was now : ViewerOf) (left now_left : Option (List ℕ)) (failed ended : Bool)
-    (old middle new : Listener)
-    (pulls : PullsPiece left now_left (piece_of middle) old middle)
-    (room : length new.piece.items ≡ length middle.piece.items)
-    (result : Result Heard LinkFault) (says : SaysOfPiece checked was now (piece_of middle) middle new result) where
-  has_pulled : (bytes : List ℕ) → HasListened checked was bytes old → HasListened checked was bytes middle
-  has_pulled bytes has = same_listened checked was bytes old middle pulls.ear pulls.same pulls.number has
-
-  -- what is said of confirmations, of the answer
-  says_of : (heard : Result Heard LinkFault) → result ≡ heard → (bytes : List ℕ) → HasListened checked was bytes middle
-      → ConfirmsBy (ear_started new.ear) (frames_in (bytes ++ piece_of middle)) heard (ear_confirmed new.ear)
-  says_of heard is bytes has =
-      subst (λ (r : Result Heard LinkFault). ConfirmsBy (ear_started new.ear) (frames_in (bytes ++ piece_of middle)) r
-      (ear_confirmed new.ear)) is (says.confirms bytes has)
-
-  by_end : (was_over : Bool) (heard : Heard) → result ≡ Ok heard
-      → HearsPiece checked was now (piece_of middle) middle.ear new.ear (Ok heard)
-      → (kind : Option ℕ) → heard.ended ≡ kind
-      → HearsNext checked was now left now_left failed ended old new (next_by_end was_over kind)
-  by_end was_over heard is hears None none = record {
-    more = piece_of middle;
-    read = pulls.read;
-    sees = says.sees;
-    heard = λ bytes has.
-        let listened = has_pulled bytes has in
-        let one = hears.each bytes listened.heard in
-        let goes : HasHeard checked (books_seen now) (bytes ++ piece_of middle) new.ear =
-        subst (GoesOnOrEnds checked (books_seen now) (bytes ++ piece_of middle) new.ear) none one.explained in
-        record {
-          has = record {
-            heard = goes;
-            requested = says.each bytes listened;
-            confirmed = confirms_all (ear_started new.ear) (frames_in (bytes ++ piece_of middle)) heard
-                (ear_confirmed new.ear) none (says_of (Ok heard) is bytes listened);
-            holding = says.holding bytes listened;
-          };
-          stays = stays_from old.ear middle.ear new.ear pulls.ear one.stays;
-        };
-    room = room ∙ pulls.room;
-  }
-  by_end was_over heard is hears (Some kind) some = record {
-    more = piece_of middle;
-    read = pulls.read;
-    sees = says.sees;
-    ends = λ bytes has.
-        let listened = has_pulled bytes has in
-        let one = hears.each bytes listened.heard in
-        record {
-          asks = one.asks;
-          ends = subst (GoesOnOrEnds checked (books_seen now) (bytes ++ piece_of middle) new.ear) some one.explained;
-          stays = stays_from old.ear middle.ear new.ear pulls.ear one.stays;
-          requested = says.each bytes listened;
-          reports = reports_frame (ear_started new.ear) (bytes ++ piece_of middle) heard kind (ear_confirmed new.ear)
-              some (says_of (Ok heard) is bytes listened);
-          holding = says.holding bytes listened;
-        };
-  }
-
-  pub hears_next : (was_over : Bool) (heard : Result Heard LinkFault) → result ≡ heard
-      → HearsPiece checked was now (piece_of middle) middle.ear new.ear heard
-      → HearsNext checked was now left now_left failed ended old new (next_by was_over heard)
-  hears_next was_over (Ok heard) is hears = by_end was_over heard is hears heard.ended refl
-  hears_next was_over (Err f) is hears = record {
-    more = piece_of middle;
-    read = pulls.read;
-    sees = says.sees;
-    ends = λ bytes has.
-        let listened = has_pulled bytes has in
-        let one = hears.each bytes listened.heard in
-        record {
-          asks = one.asks;
-          ends = one.explained;
-          stays = stays_from old.ear middle.ear new.ear pulls.ear one.stays;
-          requested = says.each bytes listened;
-          reports = reports_fault (ear_started new.ear) (bytes ++ piece_of middle) f
-              (ear_confirmed new.ear) (says_of (Err f) is bytes listened);
-          holding = says.holding bytes listened;
-        };
-  }
-
--- nothing was read, as the source says
-asks_still_for : (checked : CheckedOf) (viewer : ViewerOf) (bytes : List ℕ) (new : Listener)
-    → HasListened checked viewer bytes new
-    → AsksIfStarted checked (books_seen viewer) (frames_in (bytes ++ [])) (ear_started new.ear)
-asks_still_for checked viewer bytes new has =
-    subst (λ (all : List ℕ). AsksIfStarted checked (books_seen viewer) (frames_in all) (ear_started new.ear))
-    (sym (append-nil bytes)) (has_asked checked (books_seen viewer) bytes new.ear has.heard)
-
-says_still : (checked : CheckedOf) (viewer : ViewerOf) (bytes : List ℕ) (new : Listener)
-    → HasListened checked viewer bytes new → SaysRequested (bytes ++ []) new
-says_still checked viewer bytes new has =
-    subst (λ (all : List ℕ). SaysRequested all new) (sym (append-nil bytes)) has.requested
-
-reports_still : (checked : CheckedOf) (viewer : ViewerOf) (bytes : List ℕ) (new : Listener)
-    → HasListened checked viewer bytes new
-    → ReportsIf (ear_started new.ear) (bytes ++ []) None (ear_confirmed new.ear)
-reports_still checked viewer bytes new has =
-    subst (λ (all : List ℕ). ReportsIf (ear_started new.ear) all None (ear_confirmed new.ear))
-    (sym (append-nil bytes))
-    (reports_all (ear_started new.ear) bytes (ear_confirmed new.ear) has.heard.good has.confirmed)
-
-stays_same : (old new : Ear) → new ≡ old → StaysStarted old new
-stays_same old new same started is = ap ear_started same ∙ is
-
-module _ (checked : CheckedOf) (viewer : ViewerOf) (left now_left : Option (List ℕ)) (failed ended : Bool)
-    (old new : Listener) where
-  nothing_read : (says : Bool) (why : ListenerEnd) → PullsNothing left now_left says old new
-      → fault_by why ≡ None
-      → ((bytes : List ℕ) → EndsFor checked (books_seen viewer) bytes (ear_started new.ear) (ear_refusal new.ear) failed
-      ended why)
-      → HearsLast checked viewer viewer left now_left failed ended old new why
-  nothing_read says why pulls sound ends = record {
-    more = [];
-    read = pulls.read;
-    sees = sees_same viewer;
-    ends = λ bytes has.
-        let listened = same_listened checked viewer bytes old new pulls.ear pulls.same pulls.number has in
-        record {
-          asks = asks_still_for checked viewer bytes new listened;
-          ends = ends (bytes ++ []);
-          stays = stays_same old.ear new.ear pulls.ear;
-          requested = says_still checked viewer bytes new listened;
-          reports = subst (λ (o : Option LinkFault). ReportsIf (ear_started new.ear) (bytes ++ []) o
-              (ear_confirmed new.ear)) (sym sound) (reports_still checked viewer bytes new listened);
-          holding = listened.holding;
-        };
-  }
-
-  pub read_fails : PullsNothing left now_left failed old new
-      → HearsLast checked viewer viewer left now_left failed ended old new listener_end.SourceFailed
-  read_fails pulls = nothing_read failed listener_end.SourceFailed pulls refl (λ bytes. pulls.said)
-
-  pub read_ends : PullsNothing left now_left ended old new
-      → HearsLast checked viewer viewer left now_left failed ended old new listener_end.SourceEnded
-  read_ends pulls = nothing_read ended listener_end.SourceEnded pulls refl (λ bytes. pulls.said)
-
--- ---- reads, one after another
-
-pub hears_nothing : (checked : CheckedOf) (viewer : ViewerOf) (left : Option (List ℕ)) (listener : Listener)
-    → HearsMore checked viewer viewer left left listener listener
-hears_nothing checked viewer left listener = record {
-  more = [];
-  read = Consumes-nil left;
-  sees = sees_same viewer;
-  heard = λ bytes has. record {
-    has = subst (λ (all : List ℕ). HasListened checked viewer all listener) (sym (append-nil bytes)) has;
-    stays = λ started is. is;
-  };
-  room = refl;
-}
-
-module _ (checked : CheckedOf) (was between now : ViewerOf) (left middle_left last_left : Option (List ℕ))
-    (old middle new : Listener) (first : HearsMore checked was between left middle_left old middle) where
-  pub hears_more : HearsMore checked between now middle_left last_left middle new
-      → HearsMore checked was now left last_left old new
-  hears_more then = record {
-    more = first.more ++ then.more;
-    read = Consumes-trans left middle_left last_left first.more then.more first.read then.read;
-    sees = sees_on was between now first.sees then.sees;
-    heard = λ bytes has.
-        let one = first.heard bytes has in
-        let two = then.heard (bytes ++ first.more) one.has in
-        record {
-          has = subst (λ (all : List ℕ). HasListened checked now all new) (append_assoc bytes first.more then.more)
-              two.has;
-          stays = λ started is. two.stays started (one.stays started is);
-        };
-    room = then.room ∙ first.room;
-  }
-
-  pub hears_last : (failed ended : Bool) (why : ListenerEnd)
-      → HearsLast checked between now middle_left last_left failed ended middle new why
-      → HearsLast checked was now left last_left failed ended old new why
-  hears_last failed ended why then = record {
-    more = first.more ++ then.more;
-    read = Consumes-trans left middle_left last_left first.more then.more first.read then.read;
-    sees = sees_on was between now first.sees then.sees;
-    ends = λ bytes has.
-        let one = first.heard bytes has in
-        let two = then.ends (bytes ++ first.more) one.has in
-        subst (λ (all : List ℕ). EndsOf checked now all old new failed ended why)
-        (append_assoc bytes first.more then.more)
-        (record {
-          asks = two.asks;
-          ends = two.ends;
-          stays = λ started is. two.stays started (one.stays started is);
-          requested = two.requested;
-          reports = two.reports;
-          holding = two.holding;
-        });
-  }
-
--- ---- what came of a read
-
-pub pulled : (left now_left : Option (List ℕ)) (failed ended : Bool) (old new : Listener)
-    (result : Result Bool Failed) (more : Bool) → result ≡ Ok more → more ≡ true
-    → Pulls left now_left failed ended old new result → PullsPiece left now_left (piece_of new) old new
-pulled left now_left failed ended old new result more is some pulls =
-    subst (Pulls left now_left failed ended old new) (is ∙ ap (λ (b : Bool). Ok b) some) pulls
-
-module _ (checked : CheckedOf) (was between now : ViewerOf) (left middle_left last_left : Option (List ℕ))
-    (failed ended : Bool) (old middle new : Listener)
-    (first : HearsMore checked was between left middle_left old middle) (result : Next)
-    (hears : HearsNext checked between now middle_left last_left failed ended middle new result) where
-  pub on_after : (was_over : Bool) → result ≡ next.GoesOn was_over
-      → HearsMore checked was now left last_left old new
-  on_after was_over is =
-      hears_more checked was between now left middle_left last_left old middle new first
-      (subst (HearsNext checked between now middle_left last_left failed ended middle new) is hears)
-
-  pub last_after : (why : ListenerEnd) → result ≡ next.Ends why
-      → HearsLast checked was now left last_left failed ended old new why
-  last_after why is = hears_last checked was between now left middle_left last_left old middle new first failed ended why
-      (subst (HearsNext checked between now middle_left last_left failed ended middle new) is hears)

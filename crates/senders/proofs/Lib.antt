@@ -12,7 +12,9 @@ pub mod KeptConfirmed
 pub mod LoggedLemmas
 pub mod MemoryLemmas
 pub mod NumberLemmas
+pub mod PermitLemmas
 pub mod ReachLemmas
+pub mod ReadLemmas
 pub mod RefusedLemmas
 pub mod ReplayLemmas
 pub mod ResumeLemmas

@@ -21,7 +21,7 @@ use Rattle.senders.specs.declared.end.End.TheVariants as end
 use Rattle.senders.specs.declared.outcome.Outcome.{Outcome}
 use Rattle.senders.specs.Confirming.{FitsEnd, HasReported, ReportsIf}
 use Rattle.senders.specs.Hearing.{HoldsFault}
-use Rattle.senders.specs.Listening.{EndsAt, EndsFor, EndsOf, HasListened, HearsAll, HoldsStream, IsHolding, StartsOn}
+use Rattle.senders.specs.Listening.{EndsAt, EndsFor, EndsOf, HasListened, HearsAll, HoldsStream, HoldsStreamOf, IsHolding, StartsOn}
 use Rattle.senders.specs.Refusing.{cause_by, fault_by, fault_after}
 use Rattle.senders.specs.Running.{Heard, IsEndOf, Memory, Streams, Whole, Writing}
 use Rattle.senders.specs.Serving.{IsEndCause, IsEnded, IsAfterStream, HasClientLeft, IsServed, IsServedFor, IsStream, IsTail, IsWritten, started_of}
@@ -34,7 +34,7 @@ use Rattle.senders.specs.declared.listener_end.ListenerEnd.{ListenerEnd}
 use Rattle.senders.specs.declared.listener_end.ListenerEnd.TheVariants as listener_end
 use Rattle.senders.specs.declared.listener.Listener.{Listener}
 use Rattle.senders.proofs.ConfirmingLemmas.{fault_ended, reports_all, stream_fits}
-use Rattle.senders.proofs.HearingLemmas.{has_asked}
+use Rattle.senders.proofs.ReadLemmas.{has_asked}
 use Rattle.senders.proofs.SeenLogs.{asks_still, books_more, ends_still}
 
 -- ---- causes
@@ -257,7 +257,7 @@ pub record EndsStream (checked : CheckedOf) (now last : ViewerOf) (left now_left
   pub start_is : outcome.start ≡ Some start
   pub follow : Follow (commits_before start) (commits_of outcome)
   pub logged : TakesLogged checked new_viewer sender (commits_of outcome)
-  pub holding : now.held ≡ Some (hold (acquisition slot start new.is_requested) new.number)
+  pub holding : HoldsStreamOf (slot, start) new.is_requested new.number confirmed now.held
   pub frames : List Frame
   pub asks : AsksFor checked (books_seen last) frames slot start
   pub served : IsServed checked left now_left source_failed source_ended before after sink_failed
@@ -273,9 +273,11 @@ module _ (checked : CheckedOf) (was now last : ViewerOf) (sees : SeesMore now la
       is_requested confirmed number sender
 
   holds_started : (started : ℕ × ℕ) → ear_started new.ear ≡ Some started → IsHolding now new
-      → now.held ≡ Some (hold (acquisition started.0 started.1 new.is_requested) new.number)
+      → HoldsStreamOf started new.is_requested new.number confirmed now.held
   holds_started started is holding =
-      subst (λ (o : Option (ℕ × ℕ)). HoldsStream o new.is_requested new.number now.held) is holding
+      subst (λ (n : ℕ). HoldsStreamOf started new.is_requested new.number n now.held) (sym noted)
+      (subst (λ (o : Option (ℕ × ℕ)). HoldsStream o new.is_requested new.number (ear_confirmed new.ear) now.held) is
+      holding)
 
   ends_stream : (sender : ViewerOf) (bytes : List ℕ) (started : ℕ × ℕ) (why : Option ListenerEnd)
       → Consumes left now_left bytes → ear_started new.ear ≡ Some started → IsHolding now new

@@ -1,15 +1,31 @@
 -- A stream that a piece starts, and the slot that is acquired for it.
-use Rattle.std.proofs.Common.{◌≡◌, ℕ, ◌<◌, Bool, true, false, List, length, sym, ◌∙◌, ap, subst}
+use Rattle.std.proofs.Common.{◌≡◌, ◌≢◌, ℕ, ◌<◌, ◌≤◌, Bool, true, false, List, length, refl, sym, ◌∙◌, ap, subst, arith, cond, eq-eqb, ne_eqb}
+use Rattle.std.specs.Arc.{arc_value}
 use Rattle.std.specs.Prelude.{is_some, slice_index, Option, Some, None}
+use mathlib.Core.Logic.{dite}
+use native.Mathlib.Decide.{ℕ_discrete}
 use Rattle.tables_log.specs.BookView.{book_slots}
 use Rattle.tables_log.specs.Slots.{confirmed_at}
 use Rattle.tables_log.specs.declared.book.Book.{Book}
 use Rattle.tables_log.specs.declared.slots.Slot.{Slot}
-use Rattle.copy_both.specs.Ears.{ChangesUse, ear_started}
-use Rattle.publisher_desk.specs.SlotEvents.{MayAcquire}
+use Rattle.copy_both.specs.Ears.{ChangesUse, ear_confirmed, ear_started}
+use Rattle.publisher_desk.specs.SlotEvents.{KeepsConfirmed, MayAcquire, MayConfirm, slot_with}
 use Rattle.publisher_desk.specs.declared.slot_event.Acquisition.{Acquisition}
-use Rattle.senders.specs.Listening.{AcquiresFor, Compares, NotesStartIf}
+use Rattle.publisher_desk.specs.declared.slot_event.Confirmation.{Confirmation}
+use Rattle.senders.specs.Listening.{AcquiresFor, Compares, NotesConfirmed, NotesStart, NotesStartIf, slot_of}
+use Rattle.senders.specs.Results.{StartsFrom}
 use Rattle.senders.specs.declared.listener.Listener.{Listener}
+use Rattle.copy_both.proofs.RaisedSlots.{IsFrom, Raises}
+use Rattle.senders.proofs.HoldingLemmas.{kept_start}
+
+some_number : (one other : ℕ) → ◌≡◌ {A = Option ℕ} (Some one) (Some other) → one ≡ other
+some_number one other same = cc
+
+-- there are no more slots than subscriptions
+pub slots_few : (book : Book) → length (book_slots book) ≤ 32
+slots_few book =
+    let each = book.each in
+    let few = (arc_value book.checked).catalog.few_subscriptions in omega (arith, each, few)
 
 not_started : (started : Option (ℕ × ℕ)) → is_some started ≡ false → started ≡ None
 not_started None fresh = cc
@@ -39,6 +55,9 @@ module _ (before heard after : Listener) (old new : Book) (was_started : Bool) (
     (was_is : was_started ≡ is_some (ear_started before.ear))
     (positions : (slot : ℕ) → slot < length confirmed
     → slice_index confirmed slot ≡ confirmed_at (book_slots old) slot)
+    (few : length (book_slots old) ≤ length confirmed)
+    (raises : Raises (ear_started before.ear) (ear_started heard.ear) (book_slots old) (book_slots new)
+    (ear_confirmed before.ear) (ear_confirmed heard.ear))
     (kept_number : heard.number ≡ before.number) (kept_request : heard.is_requested ≡ before.is_requested) where
   none_before : was_started ≡ false → ear_started before.ear ≡ None
   none_before fresh = not_started (ear_started before.ear) (sym was_is ∙ fresh)
@@ -52,6 +71,7 @@ module _ (before heard after : Listener) (old new : Book) (was_started : Bool) (
     λ before_none. ap (λ (listener : Listener). ear_started listener.ear) same
         ∙ none (was_is ∙ ap is_some before_none),
     ap (λ (listener : Listener). listener.number) same ∙ kept_number,
+    ap (λ (listener : Listener). listener.is_requested) same ∙ kept_request,
   )
   acquires_for (Some one) notes = (
     none_before notes.began,
@@ -60,20 +80,36 @@ module _ (before heard after : Listener) (old new : Book) (was_started : Bool) (
     notes.number_is,
   )
 
-  late_by : (acquired : Option Acquisition) → NotesStartIf was_started confirmed number heard after acquired
+  -- of the slot of a stream that starts, what was confirmed before is known
+  position_of : (one : Acquisition) → NotesStart was_started confirmed number heard after one
+      → IsFrom (book_slots old) (one.slot, one.start)
+  position_of one notes = raises.begins (none_before notes.began) (one.slot, one.start) notes.started_is
+
+  starts_from : (one : Acquisition) → NotesStart was_started confirmed number heard after one → (b : Bool)
+      → one.is_requested ≡ b → StartsFrom (confirmed_at (book_slots old) one.slot) one.start b
+  starts_from one notes true requested =
+      let is = position_of one notes in
+      let low : one.slot < length confirmed = omega (arith, is.exists, few) in
+      subst (λ (n : ℕ). n < one.start) (positions one.slot low) (notes.late low requested)
+  starts_from one notes false other =
+      let is = position_of one notes in
+      let low : one.slot < length confirmed = omega (arith, is.exists, few) in
+      omega (arith, is.low, positions one.slot low, notes.early low other)
+
+  from_by : (acquired : Option Acquisition) → NotesStartIf was_started confirmed number heard after acquired
       → ear_started before.ear ≡ None → (slot start : ℕ) → ear_started after.ear ≡ Some (slot, start)
-      → after.is_requested ≡ true → confirmed_at (book_slots old) slot < start
-  late_by None (same, none) before_none slot start is says =
+      → StartsFrom (confirmed_at (book_slots old) slot) start after.is_requested
+  from_by None (same, none) before_none slot start is =
       absurd (let no : None ≡ Some (slot, start) =
       sym (ap (λ (listener : Listener). ear_started listener.ear) same ∙ none (was_is ∙ ap is_some before_none)) ∙ is in
       cc)
-  late_by (Some one) notes before_none slot start is says =
+  from_by (Some one) notes before_none slot start is =
       let same : (one.slot ≡ slot) × (one.start ≡ start) =
       same_place one.slot one.start slot start (sym (ap ear_started notes.ear_is ∙ notes.started_is) ∙ is) in
-      let requested : one.is_requested ≡ true = sym notes.requested_is ∙ says in
-      subst (λ (s : ℕ). confirmed_at (book_slots old) s < start) same.0
-      (subst (λ (n : ℕ). confirmed_at (book_slots old) one.slot < n) same.1
-      (subst (λ (n : ℕ). n < one.start) (positions one.slot (notes.within requested)) (notes.late requested)))
+      subst (λ (s : ℕ). StartsFrom (confirmed_at (book_slots old) s) start after.is_requested) same.0
+      (subst (λ (n : ℕ). StartsFrom (confirmed_at (book_slots old) one.slot) n after.is_requested) same.1
+      (subst (StartsFrom (confirmed_at (book_slots old) one.slot) one.start) (sym notes.requested_is)
+      (starts_from one notes one.is_requested refl)))
 
   stays_by : (acquired : Option Acquisition) → NotesStartIf was_started confirmed number heard after acquired
       → (started : ℕ × ℕ) → ear_started before.ear ≡ Some started → after.is_requested ≡ before.is_requested
@@ -83,7 +119,7 @@ module _ (before heard after : Listener) (old new : Book) (was_started : Bool) (
 
   pub compares_by : (acquired : Option Acquisition)
       → NotesStartIf was_started confirmed number heard after acquired → Compares before after old
-  compares_by acquired notes = record { late = late_by acquired notes; stays = stays_by acquired notes }
+  compares_by acquired notes = record { from = from_by acquired notes; stays = stays_by acquired notes }
 
   pub may_acquire : (acquired : Option Acquisition)
       → NotesStartIf was_started confirmed number heard after acquired
@@ -95,8 +131,7 @@ module _ (before heard after : Listener) (old new : Book) (was_started : Bool) (
   may_acquire (Some one) notes uses = record {
     takes = starts_use (ear_started before.ear) (ear_started heard.ear) (book_slots old) (book_slots new) one
         (none_before notes.began) notes.started_is uses;
-    late = λ requested. subst (λ (n : ℕ). n < one.start) (positions one.slot (notes.within requested))
-        (notes.late requested);
+    late = λ requested. starts_from one notes true requested;
   }
 
   pub ear_kept : (acquired : Option Acquisition) → NotesStartIf was_started confirmed number heard after acquired
@@ -108,3 +143,43 @@ module _ (before heard after : Listener) (old new : Book) (was_started : Bool) (
       → length after.piece.items ≡ length heard.piece.items
   room_kept None notes = ap (λ (listener : Listener). length listener.piece.items) notes.0
   room_kept (Some one) notes = notes.room
+
+  -- ---- what is confirmed
+
+  other_slot : (o : Option (ℕ × ℕ)) → ear_started heard.ear ≡ o → (number : ℕ) → slot_of o ≢ Some number
+      → confirmed_at (book_slots new) number ≡ confirmed_at (book_slots old) number
+  other_slot o is number apart = raises.beside number (λ s at same.
+      apart (ap slot_of (sym is ∙ at) ∙ ap (λ (n : ℕ). Some n) same))
+
+  stays_confirmed : (o : Option (ℕ × ℕ)) → ear_started heard.ear ≡ o
+      → NotesConfirmed o confirmed (book_slots new) None → KeepsConfirmed (book_slots old) (book_slots new)
+  stays_confirmed None is notes number = other_slot None is number (λ same. cc)
+  stays_confirmed (Some s) is notes number = dite (ℕ_discrete s.0 number)
+      (λ here.
+      let at = notes s.0 s.1 refl in
+      subst (λ (n : ℕ). confirmed_at (book_slots new) n ≡ confirmed_at (book_slots old) n) here
+      (at.1 ∙ positions s.0 at.0))
+      (λ apart. other_slot (Some s) is number (λ same. apart (some_number s.0 number same)))
+
+  -- the slot that the connection then has
+  slot_then : (acquired : Option Acquisition) → NotesStartIf was_started confirmed number heard after acquired
+      → slot_with acquired (slot_of (ear_started before.ear)) ≡ slot_of (ear_started heard.ear)
+  slot_then None (same, none) =
+      sym (ap slot_of (kept_start (ear_started before.ear) (ear_started heard.ear) raises.stays
+      (λ before_none. none (was_is ∙ ap is_some before_none))))
+  slot_then (Some one) notes = sym (ap slot_of notes.started_is)
+
+  pub may_confirm : (acquired : Option Acquisition) → NotesStartIf was_started confirmed number heard after acquired
+      → (noted : Option Confirmation) → NotesConfirmed (ear_started heard.ear) confirmed (book_slots new) noted
+      → MayConfirm (slot_of (ear_started before.ear)) acquired noted (book_slots old) (book_slots new)
+  may_confirm acquired starts None notes = stays_confirmed (ear_started heard.ear) refl notes
+  may_confirm acquired starts (Some one) notes = record {
+    mine = slot_then acquired starts ∙ notes.0;
+    rises = subst (λ (n : ℕ). confirmed_at (book_slots old) one.slot ≤ n) (sym notes.1) (raises.rises one.slot);
+    positions = λ number. dite (ℕ_discrete number one.slot)
+        (λ here. ap (confirmed_at (book_slots new)) here ∙ (sym notes.1
+        ∙ sym (ap (λ b. cond b one.position (confirmed_at (book_slots old) number)) (eq-eqb number one.slot here))))
+        (λ apart. other_slot (ear_started heard.ear) refl number
+        (λ same. apart (some_number number one.slot (sym same ∙ notes.0)))
+        ∙ sym (ap (λ b. cond b one.position (confirmed_at (book_slots old) number)) (ne_eqb number one.slot apart)));
+  }

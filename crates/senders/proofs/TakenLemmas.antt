@@ -45,5 +45,5 @@ module _ (book : Book) (closing : ClosingOf) (acquired : ℕ) (seats : List Seat
       let one : ServedOf = get_or served place other in
       let its : IsWitnessed (book_checked book) one = told.witnessed place other below in
       let seen : IsSeenIn closing one.viewer = told.seen place other below in
-      stream_longer one.slot one.start one.is_requested one.number (length one.viewer.seen) closing.events
+      stream_longer one.slot one.start one.is_requested one.number one.confirmed (length one.viewer.seen) closing.events
       one.viewer.events seen.slots its.had

@@ -1,5 +1,5 @@
 -- What the result of a connection says of its commits and of its slot.
-use Rattle.std.proofs.Common.{◌≡◌, ◌⊎◌, ℕ, ◌≤◌, List, [], ◌++◌, length, map, append_assoc, refl, sym, ◌∙◌, ap, subst, inl, inr, arith}
+use Rattle.std.proofs.Common.{◌≡◌, ◌⊎◌, ℕ, ◌≤◌, max, List, [], ◌++◌, length, map, append_assoc, refl, sym, ◌∙◌, ap, subst, inl, inr, arith}
 use Rattle.std.specs.Prelude.{Bool, false, unwrap_or, Option, Some, None}
 use Rattle.std.specs.Arc.{arc_value}
 use Rattle.std.proofs.lemmas.List.{length-map}
@@ -15,7 +15,7 @@ use Rattle.publisher_desk.specs.SlotSights.{hold}
 use Rattle.publisher_desk.specs.Viewers.{HadSlot, Holds, IsAcceptedLog, SeesMore, ShareNoAcquisition, ViewerOf, log_seen, new_viewer}
 use Rattle.publisher_desk.specs.declared.slot_sight.Hold.{Hold}
 use Rattle.senders.specs.Listening.{HasListened, HoldsStream}
-use Rattle.senders.specs.Results.{AcquiredApart, HadStream, IsWitnessed, ServedOf, acquisition, books_seen, commits_of, served_of}
+use Rattle.senders.specs.Results.{AcquiredApart, HadStream, HadStreamOf, IsWitnessed, StartsFrom, ServedOf, acquisition, books_seen, commits_of, served_of}
 use Rattle.senders.specs.Running.{EndedAtOnce, ReleasesIf, ServesOut, Streamed, Unstarted}
 use Rattle.senders.specs.Serving.{IsServed}
 use Rattle.senders.specs.declared.listener.Listener.{Listener}
@@ -35,31 +35,34 @@ pub record EndsUnstarted (checked : CheckedOf) (now last : ViewerOf) (left now_l
   pub none : outcome.taken.items ≡ []
   pub unheld : now.held ≡ None
   pub unnumbered : new.number ≡ 0
+  pub unrequested : new.is_requested ≡ false
   pub served : IsServed checked left now_left source_failed source_ended before after sink_failed
       (served_of outcome is_requested confirmed number last)
 
 witnessed_unstarted : (checked : CheckedOf) (last : ViewerOf) (outcome : Outcome) (is_requested : Bool)
-    (confirmed number : ℕ) → IsAcceptedLog checked last.seen → outcome.slot ≡ None → outcome.start ≡ None → outcome.taken.items ≡ []
-    → last.held ≡ None → number ≡ 0 → IsWitnessed checked (served_of outcome is_requested confirmed number last)
-witnessed_unstarted checked last outcome is_requested confirmed number accepted no_slot no_start none unheld unnumbered = record {
-  accepted = accepted;
-  within = subst (λ (start : Option ℕ). commits_before (unwrap_or start 0) ≤ length last.seen) (sym no_start)
-      (omega arith);
-  taken = subst (AreAt (log_seen checked last.seen) (commits_before (unwrap_or outcome.start 0)))
-      (sym (ap (map (λ commit. arc_value commit)) none)) tt;
-  had = subst (λ (slot : Option ℕ). HadStream slot outcome.start is_requested number (length last.seen) last.events)
-      (sym no_slot)
-      (subst (λ (start : Option ℕ). HadStream None start is_requested number (length last.seen) last.events)
-      (sym no_start) unnumbered);
-  free = λ slot some. absurd (let other : None ≡ Some slot = sym no_slot ∙ some in cc);
-  none = unheld;
-  own = λ start some. absurd (let other : None ≡ Some start = sym no_start ∙ some in cc);
-}
+    (confirmed number : ℕ) → IsAcceptedLog checked last.seen → outcome.slot ≡ None → outcome.start ≡ None
+    → outcome.taken.items ≡ [] → last.held ≡ None → number ≡ 0 → is_requested ≡ false
+    → IsWitnessed checked (served_of outcome is_requested confirmed number last)
+witnessed_unstarted checked last outcome is_requested confirmed number accepted no_slot no_start none unheld unnumbered
+    unrequested = record {
+      accepted = accepted;
+      within = subst (λ (start : Option ℕ). commits_before (unwrap_or start 0) ≤ length last.seen) (sym no_start)
+          (omega arith);
+      taken = subst (AreAt (log_seen checked last.seen) (commits_before (unwrap_or outcome.start 0)))
+          (sym (ap (map (λ commit. arc_value commit)) none)) tt;
+      had = subst (λ (slot : Option ℕ). HadStream slot outcome.start is_requested number confirmed (length last.seen)
+          last.events) (sym no_slot)
+          (subst (λ (start : Option ℕ). HadStream None start is_requested number confirmed (length last.seen) last.events)
+          (sym no_start) (unnumbered, unrequested));
+      free = λ slot some. absurd (let other : None ≡ Some slot = sym no_slot ∙ some in cc);
+      none = unheld;
+      own = λ start some. absurd (let other : None ≡ Some start = sym no_start ∙ some in cc);
+    }
 
 pub witnessed_nothing : (checked : CheckedOf) (outcome : Outcome) → outcome.slot ≡ None → outcome.start ≡ None
     → outcome.taken.items ≡ [] → IsWitnessed checked (served_of outcome false 0 0 new_viewer)
 witnessed_nothing checked outcome no_slot no_start none =
-    witnessed_unstarted checked new_viewer outcome false 0 0 tt no_slot no_start none refl refl
+    witnessed_unstarted checked new_viewer outcome false 0 0 tt no_slot no_start none refl refl refl
 
 -- ---- a connection that started a stream
 
@@ -80,19 +83,30 @@ module _ (checked : CheckedOf) (now between last sender : ViewerOf) (left now_le
       (length-map last.seen transaction_of)
       (start_within checked (books_seen last) ends.frames ends.slot ends.start ends.asks))
 
-  its_hold : (released : ReleasesIf (Some ends.slot) between last)
-      → released.0.mine ≡ hold (acquisition ends.slot ends.start is_requested) number
+  -- the slot that it had, as it says
+  abbrev its : Hold
+  its = hold (acquisition ends.slot ends.start is_requested) number ends.holding.found
+      (max ends.holding.found confirmed)
+
+  its_hold : (released : ReleasesIf (Some ends.slot) between last) → released.0.mine ≡ its
   its_hold released =
-      let same : Some released.0.mine ≡ Some (hold (acquisition ends.slot ends.start new.is_requested) new.number) =
-      sym released.0.was ∙ (held ∙ ends.holding) in
-      let mine : released.0.mine ≡ hold (acquisition ends.slot ends.start new.is_requested) new.number = cc in
-      mine ∙ (ap (λ (b : Bool). hold (acquisition ends.slot ends.start b) new.number) (sym said)
-      ∙ ap (λ (n : ℕ). hold (acquisition ends.slot ends.start is_requested) n) (sym numbered))
+      let found : ℕ = ends.holding.found in
+      let position : ℕ = max found confirmed in
+      let same : Some released.0.mine
+      ≡ Some (hold (acquisition ends.slot ends.start new.is_requested) new.number found position) =
+      sym released.0.was ∙ (held ∙ ends.holding.held_is) in
+      let mine : released.0.mine
+      ≡ hold (acquisition ends.slot ends.start new.is_requested) new.number found position = cc in
+      mine ∙ (ap (λ (b : Bool). hold (acquisition ends.slot ends.start b) new.number found position) (sym said)
+      ∙ ap (λ (n : ℕ). hold (acquisition ends.slot ends.start is_requested) n found position) (sym numbered))
 
   had_stream : ReleasesIf (Some ends.slot) between last
-      → HadSlot last.events (hold (acquisition ends.slot ends.start is_requested) number) (length last.seen)
-  had_stream released =
-      subst (λ (mine : Hold). HadSlot last.events mine (length last.seen)) (its_hold released) released.0.had
+      → HadStreamOf ends.slot ends.start is_requested number confirmed (length last.seen) last.events
+  had_stream released = record {
+    found = ends.holding.found;
+    had = subst (λ (mine : Hold). HadSlot last.events mine (length last.seen)) (its_hold released) released.0.had;
+    from = subst (StartsFrom ends.holding.found ends.start) (sym said) ends.holding.from;
+  }
 
   its_own : ReleasesIf (Some ends.slot) between last → 1 ≤ times number last.own
   its_own released = subst (λ (mine : Hold). 1 ≤ times mine.number last.own) (its_hold released) released.0.own
@@ -119,9 +133,9 @@ module _ (checked : CheckedOf) (now between last sender : ViewerOf) (left now_le
         (commits_of outcome)) (sym ends.start_is)
         (at_in_log checked last.seen sender.seen (commits_before ends.start) (commits_of outcome) begins
         (logged_at checked sender.seen (commits_before ends.start) (commits_of outcome) ends.follow ends.logged.logged));
-    had = subst (λ (slot : Option ℕ). HadStream slot outcome.start is_requested number (length last.seen) last.events)
-        (sym ends.slot_is)
-        (subst (λ (start : Option ℕ). HadStream (Some ends.slot) start is_requested number (length last.seen)
+    had = subst (λ (slot : Option ℕ). HadStream slot outcome.start is_requested number confirmed (length last.seen)
+        last.events) (sym ends.slot_is)
+        (subst (λ (start : Option ℕ). HadStream (Some ends.slot) start is_requested number confirmed (length last.seen)
         last.events) (sym ends.start_is) (had_stream (its_released released)));
     free = freed released;
     none = (its_released released).0.none;
@@ -176,10 +190,12 @@ module _ (checked : CheckedOf) (was now last : ViewerOf) (sees : SeesMore now la
         no_slot = no_slot;
         no_start = no_start;
         none = none;
-        unheld = (subst (λ (o : Option (ℕ × ℕ)). HoldsStream o new.is_requested new.number now.held)
+        unheld = (subst (λ (o : Option (ℕ × ℕ)). HoldsStream o new.is_requested new.number (ear_confirmed new.ear) now.held)
             at.started_is ends.holding).0;
-        unnumbered = (subst (λ (o : Option (ℕ × ℕ)). HoldsStream o new.is_requested new.number now.held)
+        unnumbered = (subst (λ (o : Option (ℕ × ℕ)). HoldsStream o new.is_requested new.number (ear_confirmed new.ear) now.held)
             at.started_is ends.holding).1;
+        unrequested = (subst (λ (o : Option (ℕ × ℕ)). HoldsStream o new.is_requested new.number (ear_confirmed new.ear) now.held)
+            at.started_is ends.holding).2;
         served = served_refused checked was now last left now_left source_failed source_ended before after sink_failed
             old new outcome is_requested confirmed number why noted sees fresh at answers no_slot no_start none same
             fault_is;
@@ -203,8 +219,9 @@ module _ (checked : CheckedOf) (was now last : ViewerOf) (sees : SeesMore now la
   holds_at held same (inr ends) slot some =
       let one : Some ends.slot ≡ Some slot = sym ends.slot_is ∙ some in
       record {
-        mine = hold (acquisition ends.slot ends.start new.is_requested) new.number;
-        held_is = same ∙ ends.holding;
+        mine = hold (acquisition ends.slot ends.start new.is_requested) new.number ends.holding.found
+            (max ends.holding.found confirmed);
+        held_is = same ∙ ends.holding.held_is;
         slot_is = cc;
       }
 
@@ -214,7 +231,7 @@ module _ (checked : CheckedOf) (was now last : ViewerOf) (sees : SeesMore now la
   witnessed_at between held numbered begins accepted released (inl ends) =
       witnessed_unstarted checked last outcome is_requested confirmed number accepted ends.no_slot ends.no_start ends.none
       (unheld_then outcome.slot between last ends.no_slot released ∙ held ∙ ends.unheld)
-      (numbered ∙ ends.unnumbered)
+      (numbered ∙ ends.unnumbered) (said ∙ ends.unrequested)
   witnessed_at between held numbered begins accepted released (inr ends) =
       witnessed_stream checked now between last sender left now_left source_failed source_ended before after sink_failed
       new outcome is_requested confirmed number said numbered held ends begins accepted released

@@ -21,7 +21,7 @@ use Rattle.senders.specs.TakenCommits.{IsTaken}
 -- the stream of the connection had its slot in these events
 abbrev pub HadStreamIn : List SlotEvent → ServedOf → Type 0
 HadStreamIn events one =
-    HadStream one.slot one.start one.is_requested one.number (length one.viewer.seen) events
+    HadStream one.slot one.start one.is_requested one.number one.confirmed (length one.viewer.seen) events
 
 -- The book is of the checked catalog, takes this number of commits, and is that of the transactions of the publisher's
 -- log; its log has an entry for each. No slot is in use, and each is confirmed as the publisher's is. The publisher's
@@ -29,7 +29,9 @@ HadStreamIn events one =
 -- beginning of it. Each reading is right by these transactions, and is of no fewer commits than an earlier note of its
 -- seat knows of. Times have 64 bits. Each connection took the commits of the book's log, and has seen a beginning of
 -- the publisher's log and the first events of its slots. In these events the stream of each connection acquired its
--- slot and released it, and no event in between is of the slot; each acquisition is that of one of the connections. In
+-- slot and released it, and no event in between acquires or releases it; the stream began where the slot was confirmed
+-- then, or later if its client requested that, and left it confirmed as far as before, or as its client confirmed it if
+-- that is further. Each acquisition is that of one of the connections. In
 -- the order of these, each commit before the start of a connection was taken for an earlier one of its slot, whose
 -- client confirmed it, or is before a position that its client, or that of an earlier one of the slot, requested; and
 -- no start is before a position that an earlier one of the slot reports as confirmed. The same holds of the position up

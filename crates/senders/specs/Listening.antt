@@ -1,5 +1,5 @@
 -- What a listener does with what it reads: PostgreSQL 15, 55.4. Streaming Replication Protocol.
-use Rattle.std.specs.Prelude.{◌≡◌, ℕ, ◌<◌, Bool, true, false, List, ◌++◌, length, slice_index, take, Option, Some, None, Result, Ok, Err}
+use Rattle.std.specs.Prelude.{◌≡◌, ℕ, ◌<◌, ◌≤◌, max, Bool, true, false, List, ◌++◌, length, slice_index, take, Option, Some, None, Result, Ok, Err}
 use Rattle.std.specs.Io.KnownBytes.{Consumes}
 use Rattle.filter_tree.specs.Memory.{Answers}
 use Rattle.shard_checker.specs.CheckedView.{CheckedOf}
@@ -7,6 +7,7 @@ use Rattle.tables_log.specs.BookView.{book_log, book_slots}
 use Rattle.tables_log.specs.Lsn.{end_lsn_of}
 use Rattle.tables_log.specs.Slots.{confirmed_at}
 use Rattle.tables_log.specs.declared.book.Book.{Book}
+use Rattle.tables_log.specs.declared.slots.Slot.{Slot}
 use Rattle.copy_both.specs.ConfirmedFrames.{HasConfirmedAll}
 use Rattle.copy_both.specs.Ears.{HearLeaves, ear_confirmed, ear_phase, ear_refusal, ear_started, hear_answer}
 use Rattle.copy_both.specs.HeardFrames.{frames_in, AsksIfStarted, BooksOf, HasEnd, HasHeard, Requests}
@@ -15,13 +16,14 @@ use Rattle.copy_both.specs.declared.heard.Heard.{Heard}
 use Rattle.copy_both.specs.declared.link_fault.LinkFault.{LinkFault}
 use Rattle.copy_both.specs.declared.link_fault.LinkFault.TheVariants.{StatusAhead}
 use Rattle.publisher_desk.specs.SlotSights.{hold}
-use Rattle.publisher_desk.specs.Viewers.{SeesMore, ViewerOf}
+use Rattle.publisher_desk.specs.Viewers.{HoldsIf, SeesMore, ViewerOf}
 use Rattle.publisher_desk.specs.declared.connection_state.ConnectionState.{ConnectionState}
 use Rattle.publisher_desk.specs.declared.slot_event.Acquisition.{Acquisition}
+use Rattle.publisher_desk.specs.declared.slot_event.Confirmation.{Confirmation}
 use Rattle.publisher_desk.specs.declared.slot_sight.Hold.{Hold}
 use Rattle.senders.specs.Confirming.{ConfirmsBy, ReportsIf}
 use Rattle.senders.specs.Refusing.{fault_by}
-use Rattle.senders.specs.Results.{acquisition, books_seen}
+use Rattle.senders.specs.Results.{StartsFrom, acquisition, books_seen}
 use Rattle.senders.specs.Hearing.{Faults, IsSentFrom, StaysStarted, sent_by}
 use Rattle.senders.specs.declared.beginning.Beginning.{Beginning}
 use Rattle.senders.specs.declared.beginning.Beginning.TheVariants as beginning
@@ -39,15 +41,32 @@ abbrev pub SaysRequested : List ℕ → Listener → Type 0
 SaysRequested bytes listener = (slot start : ℕ) → ear_started listener.ear ≡ Some (slot, start)
     → listener.is_requested ≡ true → Requests (frames_in bytes) slot start
 
--- The connection has the slot of the stream that its listener started, or has none.
-abbrev pub HoldsStream : Option (ℕ × ℕ) → Bool → ℕ → Option Hold → Type 0
-HoldsStream None is_requested number held = (held ≡ None) × (number ≡ 0)
-HoldsStream (Some started) is_requested number held =
-    held ≡ Some (hold (acquisition started.0 started.1 is_requested) number)
+-- The connection has the slot of its stream. It acquired it when it was confirmed up to `found`, and it is confirmed
+-- now up to what its client confirmed, if that is greater.
+pub record HoldsStreamOf (started : ℕ × ℕ) (is_requested : Bool) (number confirmed : ℕ) (held : Option Hold) : Type 0
+  where
+    pub found : ℕ
+    pub held_is : held ≡ Some (hold (acquisition started.0 started.1 is_requested) number found (max found confirmed))
+    pub from : StartsFrom found started.1 is_requested
+
+-- so it is of the stream that its listener started; otherwise it has none
+abbrev pub HoldsStream : Option (ℕ × ℕ) → Bool → ℕ → ℕ → Option Hold → Type 0
+HoldsStream None is_requested number confirmed held = (held ≡ None) × (number ≡ 0) × (is_requested ≡ false)
+HoldsStream (Some started) is_requested number confirmed held =
+    HoldsStreamOf started is_requested number confirmed held
 
 abbrev pub IsHolding : ViewerOf → Listener → Type 0
-IsHolding viewer listener =
-    HoldsStream (ear_started listener.ear) listener.is_requested listener.number viewer.held
+IsHolding viewer listener = HoldsStream (ear_started listener.ear) listener.is_requested listener.number
+    (ear_confirmed listener.ear) viewer.held
+
+-- the slot of the stream that was started
+abbrev pub slot_of : Option (ℕ × ℕ) → Option ℕ
+slot_of None = None
+slot_of (Some started) = Some started.0
+
+-- The connection has the slot of the stream that its listener started, if it started one.
+abbrev pub HasItsSlot : ViewerOf → Listener → Type 0
+HasItsSlot viewer listener = HoldsIf viewer.held (slot_of (ear_started listener.ear))
 
 -- It has heard these bytes, and its connection has seen this.
 pub record HasListened (checked : CheckedOf) (viewer : ViewerOf) (bytes : List ℕ) (listener : Listener) : Type 0 where
@@ -56,12 +75,31 @@ pub record HasListened (checked : CheckedOf) (viewer : ViewerOf) (bytes : List �
   pub confirmed : HasConfirmedAll (ear_started listener.ear) (frames_in bytes) (ear_confirmed listener.ear)
   pub holding : IsHolding viewer listener
 
--- Of a stream that starts now it says that its start was requested only if that is after what was confirmed for the
--- slot; of one that had started before it says what it said then.
+-- Of a stream that starts now it says that its start was requested if that is after what was confirmed for the slot,
+-- and otherwise it starts there; of one that had started before it says what it said then.
 pub record Compares (before after : Listener) (old : Book) : Type 0 where
-  pub late : ear_started before.ear ≡ None → (slot start : ℕ) → ear_started after.ear ≡ Some (slot, start)
-      → after.is_requested ≡ true → confirmed_at (book_slots old) slot < start
+  pub from : ear_started before.ear ≡ None → (slot start : ℕ) → ear_started after.ear ≡ Some (slot, start)
+      → StartsFrom (confirmed_at (book_slots old) slot) start after.is_requested
   pub stays : (started : ℕ × ℕ) → ear_started before.ear ≡ Some started → after.is_requested ≡ before.is_requested
+
+-- ---- the permit of the stream
+
+-- Its stream was started.
+pub record HasStarted (listener : Listener) : Type 0 where
+  pub stream : ℕ × ℕ
+  pub started_is : ear_started listener.ear ≡ Some stream
+
+-- There is a permit exactly if a stream starts, and it is that of its slot. A stream that had started stays so.
+abbrev pub PermitsStart : Option (ℕ × ℕ) → Option (ℕ × ℕ) → Option ℕ → Type 0
+PermitsStart (Some stream) now permit = (now ≡ Some stream) × (permit ≡ None)
+PermitsStart None (Some stream) permit = permit ≡ Some stream.0
+PermitsStart None None permit = permit ≡ None
+
+-- A stream that was started comes with the permit of its slot.
+abbrev pub HasPermit : Beginning → Type 0
+HasPermit (beginning.Started started permit) = permit ≡ started.0
+HasPermit (beginning.Ended started why permit) = permit ≡ started.0
+HasPermit (beginning.Refused why) = Unit {0}
 
 -- ---- under the lock
 
@@ -70,10 +108,10 @@ abbrev pub piece_of : Listener → List ℕ
 piece_of listener = take listener.filled listener.piece.items
 
 -- A slot was acquired for a stream that starts now, by this number; otherwise no stream starts, and the listener keeps
--- its number.
+-- its number, and what it says of the start.
 abbrev pub AcquiresFor : Listener → Listener → ℕ → Option Acquisition → Type 0
-AcquiresFor before after number None =
-    (ear_started before.ear ≡ None → ear_started after.ear ≡ None) × (after.number ≡ before.number)
+AcquiresFor before after number None = (ear_started before.ear ≡ None → ear_started after.ear ≡ None)
+    × (after.number ≡ before.number) × (after.is_requested ≡ before.is_requested)
 AcquiresFor before after number (Some one) = (ear_started before.ear ≡ None)
     × (ear_started after.ear ≡ Some (one.slot, one.start)) × (after.is_requested ≡ one.is_requested)
     × (after.number ≡ number)
@@ -88,14 +126,21 @@ pub record NotesStart (was_started : Bool) (confirmed : List ℕ) (number : ℕ)
   pub room : length after.piece.items ≡ length before.piece.items
   pub requested_is : after.is_requested ≡ one.is_requested
   pub number_is : after.number ≡ number
-  pub within : one.is_requested ≡ true → one.slot < length confirmed
-  pub late : one.is_requested ≡ true → slice_index confirmed one.slot < one.start
+  pub late : one.slot < length confirmed → one.is_requested ≡ true → slice_index confirmed one.slot < one.start
+  pub early : one.slot < length confirmed → one.is_requested ≡ false → one.start ≤ slice_index confirmed one.slot
 
 abbrev pub NotesStartIf : Bool → List ℕ → ℕ → Listener → Listener → Option Acquisition → Type 0
 NotesStartIf was_started confirmed number before after None =
     (after ≡ before) × (was_started ≡ false → ear_started before.ear ≡ None)
 NotesStartIf was_started confirmed number before after (Some one) =
     NotesStart was_started confirmed number before after one
+
+-- What is confirmed for the slot of this stream is what was confirmed before, or it is noted.
+abbrev pub NotesConfirmed : Option (ℕ × ℕ) → List ℕ → List Slot → Option Confirmation → Type 0
+NotesConfirmed started before slots None = (slot start : ℕ) → started ≡ Some (slot, start)
+    → (slot < length before) × (confirmed_at slots slot ≡ slice_index before slot)
+NotesConfirmed started before slots (Some one) =
+    (slot_of started ≡ Some one.slot) × (one.position ≡ confirmed_at slots one.slot)
 
 -- The ear heard the piece, with the sent position of the slot's connection. A status is ahead only of a log that has
 -- the start of the stream.
@@ -118,6 +163,7 @@ pub record SaysOfPiece (checked : CheckedOf) (was now : ViewerOf) (piece : List 
   pub confirms : (bytes : List ℕ) → HasListened checked was bytes old
       → ConfirmsBy (ear_started new.ear) (frames_in (bytes ++ piece)) heard (ear_confirmed new.ear)
   pub holding : (bytes : List ℕ) → HasListened checked was bytes old → IsHolding now new
+  pub mine : HasItsSlot was old → HasItsSlot now new
   pub sees : SeesMore was now
 
 -- A listener has heard these bytes, and hears on. What it had started stays so.
@@ -131,6 +177,7 @@ pub record HearsMore (checked : CheckedOf) (was now : ViewerOf) (before after : 
   pub more : List ℕ
   pub read : Consumes before after more
   pub sees : SeesMore was now
+  pub mine : HasItsSlot was old → HasItsSlot now new
   pub heard : (bytes : List ℕ) → HasListened checked was bytes old → HearsOn checked now (bytes ++ more) old new
   pub room : length new.piece.items ≡ length old.piece.items
 
@@ -203,9 +250,9 @@ pub record EndsAt (checked : CheckedOf) (was now : ViewerOf) (before after : Opt
 
 abbrev pub BeginsAs : CheckedOf → ViewerOf → ViewerOf → Option (List ℕ) → Option (List ℕ) → Bool → Bool → Listener
     → Listener → Beginning → Type 0
-BeginsAs checked was now before after failed ended old new (beginning.Started started) =
+BeginsAs checked was now before after failed ended old new (beginning.Started started permit) =
     StartsOn checked was now before after old new started
-BeginsAs checked was now before after failed ended old new (beginning.Ended started why) =
+BeginsAs checked was now before after failed ended old new (beginning.Ended started why permit) =
     EndsAt checked was now before after failed ended old new (Some started) why
 BeginsAs checked was now before after failed ended old new (beginning.Refused why) =
     EndsAt checked was now before after failed ended old new None why

@@ -1,6 +1,6 @@
 -- What contracts see of the result of a connection: the stream that it started, the commits that were taken for it, and
 -- what it has seen of its publisher: PostgreSQL 15, 55.4. Streaming Replication Protocol.
-use Rattle.std.specs.Prelude.{◌≡◌, ◌≢◌, ℕ, ◌≤◌, Bool, false, List, length, map, unwrap_or, Option, Some, None}
+use Rattle.std.specs.Prelude.{◌≡◌, ◌≢◌, ℕ, ◌<◌, ◌≤◌, max, Bool, true, false, List, length, map, unwrap_or, Option, Some, None}
 use Rattle.std.specs.Arc.{arc_value}
 use Rattle.shard_checker.specs.CheckedView.{CheckedOf}
 use Rattle.tables_log.specs.Commits.{CommitOf}
@@ -61,23 +61,36 @@ books_seen viewer = record { log = transactions_of viewer.seen; uses = uses_in v
 abbrev pub acquisition : ℕ → ℕ → Bool → Acquisition
 acquisition slot start is_requested = record { slot = slot; start = start; is_requested = is_requested }
 
--- It had the slot of its stream, and released it when the log had so many commits; or it started none.
-abbrev pub HadStream : Option ℕ → Option ℕ → Bool → ℕ → ℕ → List SlotEvent → Type 0
-HadStream (Some slot) (Some start) is_requested number commits events =
-    HadSlot events (hold (acquisition slot start is_requested) number) commits
-HadStream None None is_requested number commits events = number ≡ 0
-HadStream (Some slot) None is_requested number commits events = ⊥
-HadStream None (Some start) is_requested number commits events = ⊥
+-- A stream whose client requested its start begins after what was confirmed for its slot, and any other there.
+abbrev pub StartsFrom : ℕ → ℕ → Bool → Type 0
+StartsFrom found start true = found < start
+StartsFrom found start false = start ≡ found
+
+-- It had the slot of its stream, which was confirmed up to `found` when it acquired it, and released it when the log
+-- had so many commits. Then the slot was confirmed up to the position that its client confirmed, if that is greater.
+pub record HadStreamOf (slot start : ℕ) (is_requested : Bool) (number confirmed commits : ℕ) (events : List SlotEvent) :
+    Type 0 where
+  pub found : ℕ
+  pub had : HadSlot events (hold (acquisition slot start is_requested) number found (max found confirmed)) commits
+  pub from : StartsFrom found start is_requested
+
+-- so it is, or it started none
+abbrev pub HadStream : Option ℕ → Option ℕ → Bool → ℕ → ℕ → ℕ → List SlotEvent → Type 0
+HadStream (Some slot) (Some start) is_requested number confirmed commits events =
+    HadStreamOf slot start is_requested number confirmed commits events
+HadStream None None is_requested number confirmed commits events = (number ≡ 0) × (is_requested ≡ false)
+HadStream (Some slot) None is_requested number confirmed commits events = ⊥
+HadStream None (Some start) is_requested number confirmed commits events = ⊥
 
 -- The commits that were taken for it are those of the log that it has seen, from its start on, which is not after that
--- log's end. It had its slot, by an acquisition of its own, and that log is the one as of the release. Then the slot
--- was free, and it has no other.
+-- log's end. It had its slot, by an acquisition of its own, and that log is the one as of the release. What its client
+-- confirmed is then confirmed for the slot, which is free, and it has no other.
 pub record IsWitnessed (checked : CheckedOf) (served : ServedOf) : Type 0 where
   pub accepted : IsAcceptedLog checked served.viewer.seen
   pub within : taken_from served ≤ length served.viewer.seen
   pub taken : AreAt (log_seen checked served.viewer.seen) (taken_from served) served.taken
-  pub had : HadStream served.slot served.start served.is_requested served.number (length served.viewer.seen)
-      served.viewer.events
+  pub had : HadStream served.slot served.start served.is_requested served.number served.confirmed
+      (length served.viewer.seen) served.viewer.events
   pub free : (slot : ℕ) → served.slot ≡ Some slot → use_after served.viewer.events slot ≡ false
   pub none : served.viewer.held ≡ None
   pub own : (start : ℕ) → served.start ≡ Some start → 1 ≤ times served.number served.viewer.own

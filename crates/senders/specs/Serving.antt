@@ -135,6 +135,10 @@ pub record IsServedFor (checked : CheckedOf) (bytes : List ℕ) (source_failed s
   pub left : (slot : ℕ) → served.slot ≡ Some slot → sink_failed ≡ false → served.end ≡ end.Client
       → HasClientLeft source_ended (frames_in bytes) written
 
+-- If a stream was started, no response to a refused start was pushed. So each push of bytes had the permit of the slot.
+abbrev pub IsPermitted : Bool → Bool → ServedOf → Type 0
+IsPermitted was_refused refused served = (slot : ℕ) → served.slot ≡ Some slot → refused ≡ was_refused
+
 -- The source gave some bytes, and this came of them.
 pub record IsServed (checked : CheckedOf) (left now_left : Option (List ℕ)) (source_failed source_ended : Bool)
     (before after : Option (List ℕ)) (sink_failed : Bool) (served : ServedOf) : Type 0 where

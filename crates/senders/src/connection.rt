@@ -1,7 +1,7 @@
 //! Connections that are served side by side.
 
 ghost use Rattle.std.specs.Prelude.{◌<◌, ℕ, IsSomeAnd, length, slice_index_or};
-ghost use Rattle.senders.specs.Serving.{IsServed};
+ghost use Rattle.senders.specs.Serving.{IsPermitted, IsServed};
 
 use crate::gate::Gate;
 use crate::served::Served;
@@ -30,9 +30,11 @@ fn serve_one<
     G: Gate + Sync,
     R: Threads + Wait + Clock + Sync,
 >(rt: &R, publisher: &Publisher<P>, connection: &mut Conn<P, S, W>, gate: &G)
-    ensures { IsSomeAnd connection.new.served (IsServed P.checked (S.left connection.old.reader)
+    ensures served { IsSomeAnd connection.new.served (IsServed P.checked (S.left connection.old.reader)
         (S.left connection.new.reader) (S.has_failed connection.new.reader) (S.has_ended connection.new.reader)
         (W.taken connection.old.writer) (W.taken connection.new.writer) (W.has_failed connection.new.writer)) }
+    ensures permitted { IsSomeAnd connection.new.served (IsPermitted (W.has_refused connection.old.writer)
+        (W.has_refused connection.new.writer)) }
 {
     let served = serve(
         rt,
@@ -54,7 +56,7 @@ pub fn run_all<
     G: Gate + Sync,
     R: Threads + Wait + Clock + Sync,
 >(rt: &R, publisher: &Publisher<P>, connections: &mut [Conn<P, S, W>], gate: &G)
-    ensures { (place : ℕ) (other : _) → place < length connections.old
+    ensures served { (place : ℕ) (other : _) → place < length connections.old
         → IsSomeAnd (slice_index_or connections.new place other).served (IsServed P.checked
         (S.left (slice_index_or connections.old place other).reader)
         (S.left (slice_index_or connections.new place other).reader)
@@ -63,6 +65,10 @@ pub fn run_all<
         (W.taken (slice_index_or connections.old place other).writer)
         (W.taken (slice_index_or connections.new place other).writer)
         (W.has_failed (slice_index_or connections.new place other).writer)) }
+    ensures permitted { (place : ℕ) (other : _) → place < length connections.old
+        → IsSomeAnd (slice_index_or connections.new place other).served (IsPermitted
+        (W.has_refused (slice_index_or connections.old place other).writer)
+        (W.has_refused (slice_index_or connections.new place other).writer)) }
 {
     if connections.is_empty() {
         return;

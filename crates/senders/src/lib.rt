@@ -13,6 +13,7 @@ mod clock;
 mod close_error;
 mod closed;
 mod closing;
+mod confirming;
 mod connection;
 mod end;
 mod failed;
@@ -52,8 +53,8 @@ pub use laws::{
     clients_of_connections_follow, closed_publishers_were_followed, served_streams_tell_the_log,
 };
 pub use publisher_desk::{
-    Closing, Note, Opening, Publisher, Publishing, ReadFault, Reading, Receipt, Seat, Seats,
-    Viewer, threads_share_publishers,
+    Closing, Note, Opening, Permit, Publisher, Publishing, ReadFault, Reading, Receipt, Seat,
+    Seats, Viewer, threads_share_publishers,
 };
 pub use served::Served;
 pub use serving::serve;

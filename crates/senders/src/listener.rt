@@ -1,6 +1,6 @@
 //! What hears a connection.
 
-ghost use Rattle.std.specs.Prelude.{◌≡◌, ℕ, ◌<◌, ◌≤◌, Err, IsTrue, length, slice_index};
+ghost use Rattle.std.specs.Prelude.{◌≡◌, ℕ, ◌<◌, ◌≤◌, Err, IsTrue, false, length, slice_index};
 ghost use Rattle.filter_tree.specs.Memory.{Answers};
 ghost use Rattle.tables_log.specs.BookView.{book_log, book_slots};
 ghost use Rattle.tables_log.specs.Lsn.{end_lsn_of};
@@ -10,10 +10,11 @@ ghost use Rattle.copy_both.specs.Voices.{reported_fault};
 ghost use Rattle.copy_both.specs.declared.link_fault.LinkFault.TheVariants.{StatusAhead};
 ghost use Rattle.senders.specs.Hearing.{IsSentFrom, sent_by};
 
+use crate::confirming::confirmation;
 use crate::failed::Failed;
 use crate::source::Source;
 use copy_both::{Ear, Heard, LinkFault, StreamStart, first_sent};
-use publisher_desk::{Acquisition, ConnectionState, StreamTask};
+use publisher_desk::{Acquisition, Confirmation, ConnectionState, StreamTask};
 use shard_checker::Checked;
 use std::alloc::{AllocError, Global};
 use std::sync::Arc;
@@ -58,8 +59,8 @@ fn confirmed_positions(book: &Book) -> [Lsn; SLOTS]
 
 /// Whether the position is after that of these up to which the slot was confirmed.
 fn is_after(confirmed: &[Lsn], slot: SlotNumber, position: Lsn) -> bool
-    ensures within { IsTrue result → slot < length confirmed.now }
-    ensures after { IsTrue result → slice_index confirmed.now slot < position }
+    ensures after { slot < length confirmed.now → IsTrue result → slice_index confirmed.now slot < position }
+    ensures not { slot < length confirmed.now → result ≡ false → position ≤ slice_index confirmed.now slot }
 {
     slot < confirmed.len() && position.is_after(confirmed[slot])
 }
@@ -228,9 +229,12 @@ impl Listener {
 }
 
 impl StreamTask for Listener {
-    ghost use Rattle.senders.specs.Listening.{AcquiresFor, HeardPiece};
+    ghost use Rattle.copy_both.specs.Ears.{ear_started};
+    ghost use Rattle.senders.specs.Listening.{AcquiresFor, HeardPiece, slot_of};
 
     type Answer = Listened;
+
+    ghost slot = { λ listener. slot_of (ear_started listener.ear) };
 
     ghost did = { λ before after old new connections left number acquired listened.
         HeardPiece before after old new connections listened.heard × AcquiresFor before after number acquired };
@@ -240,12 +244,13 @@ impl StreamTask for Listener {
         book: &mut Book,
         connections: &mut [ConnectionState],
         number: u64,
-    ) -> (Listened, Option<Acquisition>) {
+    ) -> (Listened, Option<Acquisition>, Option<Confirmation>) {
         let was_started = self.ear.stream().is_some();
         let confirmed = confirmed_positions(book);
         let sent = sent_position(self.ear.stream(), connections);
         let heard = hear_piece(&mut self.ear, &self.piece[..self.filled], book, sent);
         let acquired = self.acquire(was_started, &confirmed, number);
+        let confirmed = confirmation(self.ear.stream(), &confirmed, book);
         let mut was_over = false;
         if let Some(stream) = self.ear.stream() {
             if let Some(connection) = connections.get(stream.slot).copied() {
@@ -253,6 +258,6 @@ impl StreamTask for Listener {
                 connections[stream.slot] = connection_after(connection, !was_started, &heard);
             }
         }
-        (Listened { heard, was_over }, acquired)
+        (Listened { heard, was_over }, acquired, confirmed)
     }
 }

@@ -10,13 +10,13 @@ use crate::listener_end::ListenerEnd;
 use crate::sink::Sink;
 use copy_both::LinkFault;
 
-/// Writes the bytes until the sink fails: all of them if it does not.
+/// Writes the bytes of a response until the sink fails: all of them if it does not.
 fn write_all<W: Sink>(bytes: &[u8], writer: &mut W)
     ensures { WritesFirst (W.taken writer.old) (W.taken writer.new) (W.has_failed writer.new) bytes.now }
 {
     let mut rest = bytes;
     while !rest.is_empty() {
-        let Ok(count) = writer.push(rest) else {
+        let Ok(count) = writer.refuse(rest) else {
             return;
         };
         rest = &rest[count..];

@@ -4,7 +4,7 @@ ghost use Rattle.std.specs.Prelude.{◌≡◌, ◌<◌, length, map, true};
 ghost use Rattle.std.specs.Arc.{arc_value};
 ghost use Rattle.copy_frames.specs.Contents.{copy_both_response};
 ghost use Rattle.publisher_desk.specs.Viewers.{new_viewer};
-ghost use Rattle.senders.specs.Listening.{HearsAll};
+ghost use Rattle.senders.specs.Listening.{HasItsSlot, HasStarted, HearsAll};
 ghost use Rattle.senders.specs.Sending.{IsQuiet, StopsAs, TakesLogged, started_telling};
 ghost use Rattle.senders.specs.declared.sender_end.SenderEnd.TheVariants.{WriteFault};
 
@@ -18,7 +18,7 @@ use crate::sink::Sink;
 use crate::slot_tasks::end_connection;
 use crate::source::Source;
 use copy_both::{StreamStart, Voice};
-use publisher_desk::{Publisher, Publishing, Viewer};
+use publisher_desk::{Permit, Publisher, Publishing, Viewer};
 use std::alloc::Global;
 use std::sync::{Arc, Wait};
 use std::thread::{Threads, join_mut};
@@ -40,6 +40,7 @@ pub(crate) fn send<P: Publishing, W: Sink, G: Gate, R: Wait + Clock>(
     started: StreamStart,
     voice: &mut Voice,
     writer: &mut W,
+    permit: &Permit,
     gate: &G,
 ) -> (Sent, Viewer<P>)
     requires { IsQuiet voice.old (started_telling P.checked started.0 started.1 copy_both_response) }
@@ -47,11 +48,21 @@ pub(crate) fn send<P: Publishing, W: Sink, G: Gate, R: Wait + Clock>(
         (map (λ commit. arc_value commit) result.0.taken.items) voice.new
         (started_telling P.checked started.0 started.1 copy_both_response) }
     ensures failed { result.0.stop ≡ WriteFault → W.has_failed writer.new ≡ true }
+    ensures refused { W.has_refused writer.new ≡ W.has_refused writer.old }
     ensures logged { TakesLogged P.checked new_viewer result.1
         (map (λ commit. arc_value commit) result.0.taken.items) }
 {
     let mut viewer = Viewer::new();
-    let (taken, stop) = send_all(rt, publisher, &mut viewer, started, voice, writer, gate);
+    let (taken, stop) = send_all(
+        rt,
+        publisher,
+        &mut viewer,
+        started,
+        voice,
+        writer,
+        permit,
+        gate,
+    );
     let is_first = match stop {
         SenderEnd::ConnectionEnded => false,
         SenderEnd::Finished => true,
@@ -78,7 +89,9 @@ fn hear<P: Publishing, S: Source, R: Wait>(
     listener: &mut Listener,
     reader: &mut S,
 ) -> Option<ListenerEnd>
-    requires { 0 < length listener.old.piece.items }
+    requires room { 0 < length listener.old.piece.items }
+    requires mine { HasItsSlot viewer.old listener.old }
+    requires started { HasStarted listener.old }
     ensures { HearsAll P.checked viewer.old viewer.new (S.left reader.old) (S.left reader.new)
         (S.has_failed reader.new) (S.has_ended reader.new) listener.old listener.new result }
 {
@@ -117,14 +130,18 @@ pub(crate) fn run_both<
     listener: &mut Listener,
     reader: &mut S,
     writer: &mut W,
+    permit: &Permit,
     gate: &G,
 ) -> (Sent, Viewer<P>, Option<ListenerEnd>)
     requires quiet { IsQuiet voice.old (started_telling P.checked started.0 started.1 copy_both_response) }
     requires room { 0 < length listener.old.piece.items }
+    requires mine { HasItsSlot viewer.old listener.old }
+    requires started { HasStarted listener.old }
     ensures sent { StopsAs result.0.stop (W.taken writer.old) (W.taken writer.new)
         (map (λ commit. arc_value commit) result.0.taken.items) voice.new
         (started_telling P.checked started.0 started.1 copy_both_response) }
     ensures failed { result.0.stop ≡ WriteFault → W.has_failed writer.new ≡ true }
+    ensures refused { W.has_refused writer.new ≡ W.has_refused writer.old }
     ensures heard { HearsAll P.checked viewer.old viewer.new (S.left reader.old) (S.left reader.new)
         (S.has_failed reader.new) (S.has_ended reader.new) listener.old listener.new result.2 }
     ensures logged { TakesLogged P.checked new_viewer result.1
@@ -134,7 +151,9 @@ pub(crate) fn run_both<
     let (why, (sent, sender)) = join_mut(
         rt,
         &mut || -> Option<ListenerEnd>
-            requires { 0 < length listener.now.piece.items }
+            requires room { 0 < length listener.now.piece.items }
+            requires mine { HasItsSlot viewer.now listener.now }
+            requires started { HasStarted listener.now }
             ensures { HearsAll P.checked viewer.entry.now viewer.exit.now (S.left reader.entry.now)
                 (S.left reader.exit.now) (S.has_failed reader.exit.now) (S.has_ended reader.exit.now)
                 listener.entry.now listener.exit.now result }
@@ -145,6 +164,7 @@ pub(crate) fn run_both<
                 (map (λ commit. arc_value commit) result.0.taken.items) voice.exit.now
                 (started_telling P.checked slot start copy_both_response) }
             ensures failed { result.0.stop ≡ WriteFault → W.has_failed writer.exit.now ≡ true }
+            ensures refused { W.has_refused writer.exit.now ≡ W.has_refused writer.entry.now }
             ensures logged { TakesLogged P.checked new_viewer result.1
                 (map (λ commit. arc_value commit) result.0.taken.items) }
         {
@@ -154,6 +174,7 @@ pub(crate) fn run_both<
                 StreamStart { slot, start },
                 voice,
                 writer,
+                permit,
                 gate,
             )
         },

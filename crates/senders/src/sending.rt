@@ -17,7 +17,7 @@ use crate::gate::Gate;
 use crate::sender_end::SenderEnd;
 use crate::sink::Sink;
 use copy_both::{StreamStart, Taken, Voice};
-use publisher_desk::{Publisher, Publishing, SenderStep, Viewer};
+use publisher_desk::{Permit, Publisher, Publishing, SenderStep, Viewer};
 use std::alloc::{AllocError, Global};
 use std::sync::{Arc, Wait};
 use std::time::Clock;
@@ -62,6 +62,7 @@ fn await_step<P: Publishing, W: Sink, R: Wait>(
     is_due: bool,
     voice: &mut Voice,
     writer: &mut W,
+    permit: &Permit,
 ) -> Result<SenderStep, Failed>
     ensures flushes { Flushes (W.taken writer.old) (W.taken writer.new) voice.old voice.new }
     ensures next { IfOk result (IsNext P.checked.plan slot number) }
@@ -69,12 +70,13 @@ fn await_step<P: Publishing, W: Sink, R: Wait>(
     ensures sees { SeesMore viewer.old viewer.new }
     ensures failed { MatchResult result (λ step. W.has_failed writer.new ≡ W.has_failed writer.old)
         (λ failed. W.has_failed writer.new ≡ true) }
+    ensures refused { W.has_refused writer.new ≡ W.has_refused writer.old }
 {
     let waiting = voice.output().len();
     if let Some(step) = step_if(rt, publisher, viewer, slot, number, is_due, waiting) {
         return Ok(step);
     }
-    flush(voice, writer)?;
+    flush(voice, writer, permit)?;
     Ok(publisher.next_step(rt, viewer, slot, number))
 }
 
@@ -118,6 +120,7 @@ fn tell_all<P: Publishing, W: Sink, G: Gate, R: Wait + Clock>(
     started: StreamStart,
     voice: &mut Voice,
     writer: &mut W,
+    permit: &Permit,
     gate: &G,
 ) -> (Vec<Arc<Commit, Global>>, SenderEnd)
     requires { IsQuiet voice.old (started_telling P.checked started.0 started.1 copy_both_response) }
@@ -125,6 +128,7 @@ fn tell_all<P: Publishing, W: Sink, G: Gate, R: Wait + Clock>(
         (map (λ commit. arc_value commit) result.0.items) voice.new
         (started_telling P.checked started.0 started.1 copy_both_response) }
     ensures failed { result.1 ≡ WriteFault → W.has_failed writer.new ≡ true }
+    ensures refused { W.has_refused writer.new ≡ W.has_refused writer.old }
     ensures logged { TakesLogged P.checked viewer.old viewer.new
         (map (λ commit. arc_value commit) result.0.items) }
 {
@@ -148,6 +152,7 @@ fn tell_all<P: Publishing, W: Sink, G: Gate, R: Wait + Clock>(
             is_due,
             voice,
             writer,
+            permit,
         ) else {
             return (taken, SenderEnd::WriteFault);
         };
@@ -197,6 +202,7 @@ pub(crate) fn send_all<P: Publishing, W: Sink, G: Gate, R: Wait + Clock>(
     started: StreamStart,
     voice: &mut Voice,
     writer: &mut W,
+    permit: &Permit,
     gate: &G,
 ) -> (Vec<Arc<Commit, Global>>, SenderEnd)
     requires { IsQuiet voice.old (started_telling P.checked started.0 started.1 copy_both_response) }
@@ -204,15 +210,16 @@ pub(crate) fn send_all<P: Publishing, W: Sink, G: Gate, R: Wait + Clock>(
         (map (λ commit. arc_value commit) result.0.items) voice.new
         (started_telling P.checked started.0 started.1 copy_both_response) }
     ensures failed { result.1 ≡ WriteFault → W.has_failed writer.new ≡ true }
+    ensures refused { W.has_refused writer.new ≡ W.has_refused writer.old }
     ensures logged { TakesLogged P.checked viewer.old viewer.new
         (map (λ commit. arc_value commit) result.0.items) }
 {
-    let (taken, stop) = tell_all(rt, publisher, viewer, started, voice, writer, gate);
+    let (taken, stop) = tell_all(rt, publisher, viewer, started, voice, writer, permit, gate);
     match stop {
         SenderEnd::WriteFault => return (taken, stop),
         SenderEnd::ConnectionEnded | SenderEnd::Finished | SenderEnd::OutOfMemory => {}
     }
-    if flush(voice, writer).is_err() {
+    if flush(voice, writer, permit).is_err() {
         return (taken, SenderEnd::WriteFault);
     }
     (taken, stop)

@@ -5,12 +5,15 @@ ghost use Rattle.std.specs.Arc.{arc_value};
 ghost use Rattle.senders.specs.Causes as spec;
 ghost use Rattle.senders.specs.Causes.{chosen, end_by, unopened_by};
 ghost use Rattle.publisher_desk.specs.Viewers.{Holds, new_viewer};
+ghost use Rattle.senders.specs.Listening.{HasItsSlot};
 ghost use Rattle.senders.specs.Refusing as refusing;
 ghost use Rattle.senders.specs.Results.{IsWitnessed, commits_of};
 ghost use Rattle.senders.specs.Running.{Concludes, IsWithout, ReleasesIf, RunsOn, ServesOut, Streams};
 ghost use Rattle.senders.specs.Sending.{TakesLogged};
+ghost use Rattle.copy_both.specs.Ears.{ear_started};
+ghost use Rattle.senders.specs.Listening.{HasStarted};
 ghost use Rattle.senders.specs.Speaking.{IsQuietAt};
-ghost use Rattle.senders.specs.Serving.{IsServed};
+ghost use Rattle.senders.specs.Serving.{IsPermitted, IsServed};
 
 use crate::beginning::Beginning;
 use crate::end::End;
@@ -27,12 +30,11 @@ use crate::sink::Sink;
 use crate::source::Source;
 use crate::speaking::{open, say_last};
 use copy_both::{LinkFault, StreamStart, Voice};
-use publisher_desk::{Publisher, Publishing, Viewer};
+use publisher_desk::{Permit, Publisher, Publishing, Viewer};
 use std::alloc::Global;
 use std::sync::Wait;
 use std::thread::Threads;
 use std::time::Clock;
-use tables_log::SlotNumber;
 
 /// Why a connection ended, if its sender ended it.
 fn end_of(stop: SenderEnd) -> End
@@ -148,12 +150,14 @@ fn conclude<W: Sink>(
     sent: Sent,
     why: Option<ListenerEnd>,
     writer: &mut W,
+    permit: &Permit,
 ) -> Outcome
     requires { IsQuietAt sent.stop voice.old }
-    ensures { Concludes started.0 started.1 sent why (W.taken writer.old) (W.taken writer.new)
+    ensures concludes { Concludes started.0 started.1 sent why (W.taken writer.old) (W.taken writer.new)
         (W.has_failed writer.old) (W.has_failed writer.new) result }
+    ensures refused { W.has_refused writer.new ≡ W.has_refused writer.old }
 {
-    let stop = say_last(voice, sent.stop, why, writer);
+    let stop = say_last(voice, sent.stop, why, writer, permit);
     let end = reported_cause(stop, sent.is_first, why);
     Outcome {
         slot: Some(started.slot),
@@ -171,13 +175,15 @@ fn serve_ended<P: Publishing, W: Sink, G: Gate, R: Wait + Clock>(
     started: StreamStart,
     why: ListenerEnd,
     writer: &mut W,
+    permit: &Permit,
     gate: &G,
 ) -> (Outcome, Viewer<P>)
     ensures streams { Streams P.checked started.0 started.1 (W.taken writer.old) (W.taken writer.new)
         (W.has_failed writer.new) (Some why) result.0 }
     ensures logged { TakesLogged P.checked new_viewer result.1 (commits_of result.0) }
+    ensures refused { W.has_refused writer.new ≡ W.has_refused writer.old }
 {
-    let mut voice = match open(publisher, started, writer) {
+    let mut voice = match open(publisher, started, writer, permit) {
         Ok(voice) => voice,
         Err(stop) => {
             let end = unopened_end(stop, why);
@@ -185,8 +191,8 @@ fn serve_ended<P: Publishing, W: Sink, G: Gate, R: Wait + Clock>(
             return (outcome, Viewer::new());
         }
     };
-    let (sent, viewer) = send(rt, publisher, started, &mut voice, writer, gate);
-    let outcome = conclude(started, &mut voice, sent, Some(why), writer);
+    let (sent, viewer) = send(rt, publisher, started, &mut voice, writer, permit, gate);
+    let outcome = conclude(started, &mut voice, sent, Some(why), writer, permit);
     (outcome, viewer)
 }
 
@@ -205,15 +211,19 @@ fn serve_started<
     listener: &mut Listener,
     reader: &mut S,
     writer: &mut W,
+    permit: &Permit,
     gate: &G,
 ) -> (Outcome, Viewer<P>)
-    requires { 0 < length listener.old.piece.items }
+    requires room { 0 < length listener.old.piece.items }
+    requires mine { HasItsSlot viewer.old listener.old }
+    requires started { HasStarted listener.old }
     ensures runs { RunsOn P.checked viewer.old viewer.new started.0 started.1 (S.left reader.old)
         (S.left reader.new) (S.has_failed reader.new) (S.has_ended reader.new) (W.taken writer.old)
         (W.taken writer.new) (W.has_failed writer.new) listener.old listener.new result.0 }
     ensures logged { TakesLogged P.checked new_viewer result.1 (commits_of result.0) }
+    ensures refused { W.has_refused writer.new ≡ W.has_refused writer.old }
 {
-    let mut voice = match open(publisher, started, writer) {
+    let mut voice = match open(publisher, started, writer, permit) {
         Ok(voice) => voice,
         Err(stop) => {
             let outcome = without_commits(publisher.allocator(), started, end_of(stop), None);
@@ -226,13 +236,13 @@ fn serve_started<
         return (outcome, Viewer::new());
     }
     let (sent, sender, why) = run_both(
-        rt, publisher, viewer, started, &mut voice, listener, reader, writer, gate,
+        rt, publisher, viewer, started, &mut voice, listener, reader, writer, permit, gate,
     );
-    let outcome = conclude(started, &mut voice, sent, why, writer);
+    let outcome = conclude(started, &mut voice, sent, why, writer, permit);
     (outcome, sender)
 }
 
-/// What came of a connection, and what its sender has then seen.
+/// What came of a connection, what its sender has then seen, and the permit of its stream, if one was started.
 fn outcome_of<
     P: Publishing + Sync,
     S: Source + Send,
@@ -247,37 +257,48 @@ fn outcome_of<
     reader: &mut S,
     writer: &mut W,
     gate: &G,
-) -> (Outcome, Viewer<P>)
-    requires { 0 < length listener.old.piece.items }
-    ensures { ServesOut P.checked viewer.old viewer.new (S.left reader.old) (S.left reader.new)
+) -> (Outcome, Viewer<P>, Option<Permit>)
+    requires room { 0 < length listener.old.piece.items }
+    requires mine { HasItsSlot viewer.old listener.old }
+    requires fresh { ear_started listener.old.ear ≡ None }
+    ensures serves { ServesOut P.checked viewer.old viewer.new (S.left reader.old) (S.left reader.new)
         (S.has_failed reader.new) (S.has_ended reader.new) (W.taken writer.old) (W.taken writer.new)
         (W.has_failed writer.new) listener.old listener.new result.1 result.0 }
+    ensures permit { result.2 ≡ result.0.slot }
+    ensures refused { (slot : ℕ) → result.0.slot ≡ Some slot → W.has_refused writer.new ≡ W.has_refused writer.old }
 {
     match begin(rt, publisher, viewer, listener, reader) {
         Beginning::Refused(why) => {
             answer(listener, why, writer);
             let outcome = unstarted(publisher.allocator(), cause_of(why), fault_of(why));
-            (outcome, Viewer::new())
+            (outcome, Viewer::new(), None)
         }
-        Beginning::Ended(started, why) => serve_ended(rt, publisher, started, why, writer, gate),
-        Beginning::Started(started) => serve_started(
-            rt, publisher, viewer, started, listener, reader, writer, gate,
-        ),
+        Beginning::Ended(started, why, permit) => {
+            let (outcome, sender) = serve_ended(rt, publisher, started, why, writer, &permit, gate);
+            (outcome, sender, Some(permit))
+        }
+        Beginning::Started(started, permit) => {
+            let (outcome, sender) = serve_started(
+                rt, publisher, viewer, started, listener, reader, writer, &permit, gate,
+            );
+            (outcome, sender, Some(permit))
+        }
     }
 }
 
-/// Releases the slot that the connection has, if it has one.
+/// Releases the slot that the connection has, if it has one, and with it gives its permit back.
 fn release_if<P: Publishing, R: Wait>(
     rt: &R,
     publisher: &Publisher<P>,
     viewer: &mut Viewer<P>,
-    slot: Option<SlotNumber>,
+    permit: Option<Permit>,
 )
-    requires { (number : ℕ) → slot ≡ Some number → Holds viewer.old.held number }
-    ensures { ReleasesIf slot viewer.old viewer.new }
+    requires { (number : ℕ) → permit ≡ Some number → Holds viewer.old.held number }
+    ensures { ReleasesIf permit viewer.old viewer.new }
 {
-    if let Some(slot) = slot {
-        publisher.release(rt, viewer, slot);
+    match permit {
+        Some(permit) => publisher.release(rt, viewer, permit),
+        None => {}
     }
 }
 
@@ -285,6 +306,8 @@ fn release_if<P: Publishing, R: Wait>(
 /// Then one thread sends it each commit from there on, as it is made, and another hears what it confirms. The
 /// connection ends if its source or its sink fails, if its client ends it or sends something invalid, or when the
 /// publisher is finished and all commits are taken. When this function returns, the slot is released.
+///
+/// All bytes of the stream are pushed with the permit of its slot: after it is acquired, and before it is released.
 ///
 /// If the sender has taken all commits, the connection is heard until its source has ended, and if the sender failed,
 /// until the source has given one more piece. Until then it keeps its slot.
@@ -300,6 +323,7 @@ pub fn serve<
     ensures served { IsServed P.checked (S.left reader.old) (S.left reader.new) (S.has_failed reader.new)
         (S.has_ended reader.new) (W.taken writer.old) (W.taken writer.new) (W.has_failed writer.new) result }
     ensures witnessed { IsWitnessed P.checked result }
+    ensures permitted { IsPermitted (W.has_refused writer.old) (W.has_refused writer.new) result }
 {
     let alloc = publisher.allocator();
     let Ok(mut listener) = Listener::new(alloc, publisher.checked()) else {
@@ -307,7 +331,7 @@ pub fn serve<
         return Served::new(outcome, false, 0, 0, Viewer::new());
     };
     let mut viewer = Viewer::new();
-    let (outcome, mut sender) = outcome_of(
+    let (outcome, mut sender, permit) = outcome_of(
         rt,
         publisher,
         &mut viewer,
@@ -317,7 +341,7 @@ pub fn serve<
         gate,
     );
     publisher.compare(rt, &mut viewer, &mut sender);
-    release_if(rt, publisher, &mut viewer, outcome.slot);
+    release_if(rt, publisher, &mut viewer, permit);
     viewer.is_accepted();
     Served::new(
         outcome,

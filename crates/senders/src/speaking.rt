@@ -9,7 +9,7 @@ use crate::listener_end::ListenerEnd;
 use crate::sender_end::SenderEnd;
 use crate::sink::Sink;
 use copy_both::{StreamStart, Voice};
-use publisher_desk::{Publisher, Publishing};
+use publisher_desk::{Permit, Publisher, Publishing};
 use std::alloc::AllocError;
 use std::sync::Arc;
 
@@ -33,9 +33,11 @@ pub(crate) fn open<P: Publishing, W: Sink>(
     publisher: &Publisher<P>,
     started: StreamStart,
     writer: &mut W,
+    permit: &Permit,
 ) -> Result<Voice, SenderEnd>
     ensures ok { IfOk result (Opens P.checked started.0 started.1 (W.taken writer.old) (W.taken writer.new)) }
     ensures err { IfErr result (FailsToOpen (W.taken writer.old) (W.taken writer.new) (W.has_failed writer.new)) }
+    ensures refused { W.has_refused writer.new ≡ W.has_refused writer.old }
 {
     let Ok(mut voice) = new_voice(publisher) else {
         return Err(SenderEnd::OutOfMemory);
@@ -43,7 +45,7 @@ pub(crate) fn open<P: Publishing, W: Sink>(
     if voice.start(started.slot, started.start.to_u64()).is_err() {
         return Err(SenderEnd::OutOfMemory);
     }
-    if flush(&mut voice, writer).is_err() {
+    if flush(&mut voice, writer, permit).is_err() {
         return Err(SenderEnd::WriteFault);
     }
     Ok(voice)
@@ -70,10 +72,12 @@ pub(crate) fn say_last<W: Sink>(
     stop: SenderEnd,
     why: Option<ListenerEnd>,
     writer: &mut W,
+    permit: &Permit,
 ) -> SenderEnd
     requires { IsQuietAt stop voice.old }
-    ensures { SaysLast stop result why (W.taken writer.old) (W.taken writer.new) (W.has_failed writer.old)
+    ensures says { SaysLast stop result why (W.taken writer.old) (W.taken writer.new) (W.has_failed writer.old)
         (W.has_failed writer.new) }
+    ensures refused { W.has_refused writer.new ≡ W.has_refused writer.old }
 {
     match stop {
         SenderEnd::WriteFault | SenderEnd::OutOfMemory => return stop,
@@ -85,6 +89,6 @@ pub(crate) fn say_last<W: Sink>(
     if voice.done().is_err() {
         return SenderEnd::OutOfMemory;
     }
-    let _ = flush(voice, writer);
+    let _ = flush(voice, writer, permit);
     stop
 }

@@ -20,10 +20,10 @@ fn a_reader_is_a_source(rt: HostRuntime) -> Result<(), Fail> {
 fn a_writer_is_a_sink(rt: HostRuntime) -> Result<(), Fail> {
     let mut room = [0; 3];
     let mut sink = ToWrite::new(&mut room[..]);
-    same(&rt, sink.push("ab".as_bytes()).ok(), Some(2));
-    same(&rt, sink.push("cd".as_bytes()).ok(), Some(1));
+    same(&rt, sink.refuse("ab".as_bytes()).ok(), Some(2));
+    same(&rt, sink.refuse("cd".as_bytes()).ok(), Some(1));
     holds(&rt, !sink.failed());
-    holds(&rt, sink.push("d".as_bytes()).is_err() && sink.failed());
+    holds(&rt, sink.refuse("d".as_bytes()).is_err() && sink.failed());
     OpenGate.pass(0, 1);
     Ok(())
 }

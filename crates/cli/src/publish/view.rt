@@ -8,6 +8,7 @@ ghost use Rattle.shard_world.specs.ViewContents.{AllAt, FoundIn};
 ghost use Rattle.tables_log.specs.BookView.{book_slots};
 ghost use Rattle.tables_log.specs.Committing.{ChangesSlots};
 ghost use Rattle.tables_log.specs.Slots.{KeepsUse};
+ghost use Rattle.publisher_desk.specs.SlotEvents.{KeepsConfirmed};
 ghost use Rattle.publisher_desk.specs.Sights.{StartsWith};
 ghost use Rattle.cli.specs.Views as spec;
 ghost use Rattle.cli.specs.Views.{IsViewText, progress_lines};
@@ -50,6 +51,7 @@ struct Viewing {
 fn is_taken(book: &mut Book, slot: SlotNumber) -> bool
     ensures slots { ChangesSlots book.old book.new (book_slots book.new) }
     ensures uses { KeepsUse (book_slots book.old) (book_slots book.new) }
+    ensures confirmed { KeepsConfirmed (book_slots book.old) (book_slots book.new) }
 {
     match book.start(slot, 0) {
         Ok(_) => {
@@ -77,6 +79,7 @@ fn progress_in(
 ) -> Result<Vec<Progress>, AllocError>
     ensures slots { ChangesSlots book.old book.new (book_slots book.new) }
     ensures uses { KeepsUse (book_slots book.old) (book_slots book.new) }
+    ensures confirmed { KeepsConfirmed (book_slots book.old) (book_slots book.new) }
     ensures count { IfOk result (λ progress. length progress.items ≡ subscriptions) }
 {
     let mut progress = Vec::new(alloc);

@@ -1,12 +1,18 @@
 use Rattle.std.proofs.Common.{ℕ, All, ap, subst, sym, ◌∙◌}
 use Rattle.std.proofs.lemmas.List.{with_items_is}
 use Rattle.std.proofs.lemmas.List.Elements.{All-nil}
-use Rattle.cli.proofs.Published.{closes_after, cut_off_returned, no_memory, unopened_returned}
+use Rattle.cli.proofs.Published.{closes_after, cut_off_returned, no_memory, nothing_said, unopened_returned}
 use Rattle.cli.specs.Connections.{WasServed, served_at}
 use Rattle.cli.specs.Incoming.{coming}
 use Rattle.cli.specs.Published.{callers_at}
 use Rattle.cli.specs.Talks.{IsCutOff}
 use Rattle.cli.proofs.publish.publish.Goals as goal
+
+pub returns-in_err-publisher : goal.returns-in_err-publisher
+returns-in_err-publisher g c =
+    nothing_said c.args.feed g.P.Publishing.checked g.I.Reader.may_fail (coming g.I.Read.remaining c.args.lines.now)
+    (g.W.Writer.contents c.args.writer.now) c.from_residual-in_err-publisher.result
+    c.from_residual-in_err-publisher.ensures.1
 
 pub returns-in_err-doors : goal.returns-in_err-doors
 returns-in_err-doors g c =

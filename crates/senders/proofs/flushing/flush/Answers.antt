@@ -15,4 +15,5 @@ loop-writer-preserved g c =
           (take c.in_ok-count.count bytes)) c.output-in-loop-writer.ensures c.in_ok-count.ensures.bytes)
           c.passed.ensures.passes;
       same = c.in_ok-count.ensures.failed ∙ c.loop-writer.invariant.same;
+      unrefused = c.push.ensures.refused ∙ c.loop-writer.invariant.unrefused;
     }

@@ -1,32 +1,44 @@
-use Rattle.senders.proofs.HearingLemmas.{hears_nothing, last_after, on_after}
+use Rattle.copy_both.specs.Ears.{ear_started}
+use Rattle.senders.proofs.PermitLemmas.{kept_by}
+use Rattle.senders.proofs.ReadLemmas.{hears_nothing, last_after, on_after}
 use Rattle.senders.proofs.listening.listen.Goals as goal
 
 pub loop-init : goal.loop-init
-loop-init g c = hears_nothing g.P.Publishing.checked c.args.viewer.now (g.S.Source.left c.args.reader.now) c.args.listener.now
+loop-init g c = (
+  hears_nothing g.P.Publishing.checked c.args.viewer.now (g.S.Source.left c.args.reader.now) c.args.listener.now,
+  c.requires.started,
+)
 
 pub returns-in-Ends : goal.returns-in-Ends
 returns-in-Ends g c =
     let left = g.S.Source.left in
-    let next = c.hear_next in
+    let next = c.hear_next-next in
     last_after g.P.Publishing.checked c.args.viewer.now c.loop.viewer next.new.viewer (left c.args.reader.now) (left c.loop.reader) (left next.new.reader)
     (g.S.Source.has_failed next.new.reader) (g.S.Source.has_ended next.new.reader)
-    c.args.listener.now c.loop.listener next.new.listener c.loop.invariant next.result next.ensures c.in-Ends.why
+    c.args.listener.now c.loop.listener next.new.listener c.loop.invariant.0 next.result.0 next.ensures.hears c.in-Ends.why
     c.in-Ends.is
 
 pub returns-in-GoesOn-true : goal.returns-in-GoesOn-true
 returns-in-GoesOn-true g c =
     let left = g.S.Source.left in
-    let next = c.hear_next in
+    let next = c.hear_next-next in
     on_after g.P.Publishing.checked c.args.viewer.now c.loop.viewer next.new.viewer (left c.args.reader.now) (left c.loop.reader) (left next.new.reader)
     (g.S.Source.has_failed next.new.reader) (g.S.Source.has_ended next.new.reader)
-    c.args.listener.now c.loop.listener next.new.listener c.loop.invariant next.result next.ensures
+    c.args.listener.now c.loop.listener next.new.listener c.loop.invariant.0 next.result.0 next.ensures.hears
     c.in-GoesOn-true.field-0 c.in-GoesOn-true.is
 
 pub loop-preserved : goal.loop-preserved
 loop-preserved g c =
     let left = g.S.Source.left in
-    let next = c.hear_next in
-    on_after g.P.Publishing.checked c.args.viewer.now c.loop.viewer next.new.viewer (left c.args.reader.now) (left c.loop.reader) (left next.new.reader)
-    (g.S.Source.has_failed next.new.reader) (g.S.Source.has_ended next.new.reader)
-    c.args.listener.now c.loop.listener next.new.listener c.loop.invariant next.result next.ensures
-    c.in-GoesOn-false.field-0 c.in-GoesOn-false.is
+    let next = c.hear_next-next in
+    let was = c.loop.invariant.1 in (
+      on_after g.P.Publishing.checked c.args.viewer.now c.loop.viewer next.new.viewer (left c.args.reader.now) (left c.loop.reader) (left next.new.reader)
+          (g.S.Source.has_failed next.new.reader) (g.S.Source.has_ended next.new.reader)
+          c.args.listener.now c.loop.listener next.new.listener c.loop.invariant.0 next.result.0 next.ensures.hears
+          c.in-GoesOn-false.field-0 c.in-GoesOn-false.is,
+      record {
+        stream = was.stream;
+        started_is = (kept_by (ear_started c.loop.listener.ear) (ear_started next.new.listener.ear) next.result.1
+            was.stream was.started_is next.ensures.permit).0;
+      },
+    )

@@ -1,4 +1,4 @@
-use Rattle.std.proofs.Common.{◌≡◌, [], map}
+use Rattle.std.proofs.Common.{◌≡◌, ◌∙◌, [], map}
 use Rattle.std.specs.Prelude.{true}
 use Rattle.std.specs.Arc.{arc_value}
 use Rattle.copy_frames.specs.Contents.{copy_both_response}
@@ -20,6 +20,7 @@ returns-then-is_err g c =
           if_err c.flush.result c.is_err.result
           (has_failed c.flush.new.writer ≡ has_failed c.tell_all-taken.new.writer)
           (has_failed c.flush.new.writer ≡ true) c.is_err.ensures.value c.if-is_err.true c.flush.ensures.failed;
+      refused = c.flush.ensures.refused ∙ c.tell_all-taken.ensures.refused;
       logged = c.tell_all-taken.ensures.logged;
     }
 
@@ -36,5 +37,6 @@ returns g c =
           c.flush.new.voice c.flush.ensures.flushes c.tell_all-taken.result.1
           (not_fault c.tell_all-taken.result.1 c.in-ConnectionEnded.is) c.tell_all-taken.ensures.tells none;
       failed = λ is. absurd (not_fault c.tell_all-taken.result.1 c.in-ConnectionEnded.is is);
+      refused = c.flush.ensures.refused ∙ c.tell_all-taken.ensures.refused;
       logged = c.tell_all-taken.ensures.logged;
     }

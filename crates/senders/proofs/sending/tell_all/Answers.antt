@@ -1,4 +1,4 @@
-use Rattle.std.proofs.Common.{ℕ, List, map, ap, subst, sym, ◌∙◌}
+use Rattle.std.proofs.Common.{ℕ, List, map, ap, refl, subst, sym, ◌∙◌}
 use Rattle.std.specs.Prelude.{false}
 use Rattle.std.proofs.lemmas.List.Elements.{All-nil}
 use Rattle.stream_laws.specs.LayoutRoom.{IsClocked}
@@ -26,6 +26,7 @@ loop-init g c = (
       (All-nil IsClocked) c.requires),
   takes_first g.P.Publishing.checked c.args.viewer.now (map (λ commit. arc_value commit) c.new-taken.result.items)
       (ap (map (λ commit. arc_value commit)) c.new-taken.ensures.items),
+  refl,
 )
 
 pub loop-preserved-in-Sent : goal.loop-preserved-in-Sent
@@ -53,6 +54,7 @@ loop-preserved-in-Sent g c =
           c.in-Ok.ensures.logged).0
           (subst (IsNext g.P.Publishing.checked.plan c.started.inside.slot c.in-Some-next.number) c.in-Entry.is
           c.in-Ok.ensures.next).0),
+      c.await_step.ensures.refused ∙ c.loop.invariant.2,
     )
 
 pub loop-preserved-in_default-told : goal.loop-preserved-in_default-told
@@ -80,6 +82,7 @@ loop-preserved-in_default-told g c =
           c.in-Ok.ensures.logged).0
           (subst (IsNext g.P.Publishing.checked.plan c.started.inside.slot c.in-Some-next.number) c.in-Entry.is
           c.in-Ok.ensures.next).0),
+      c.await_step.ensures.refused ∙ c.loop.invariant.2,
     )
 
 -- the entry is routed by the plan of the voice, which is the publisher's
@@ -134,6 +137,7 @@ loop-preserved-in-Skip g c =
           c.in-Ok.ensures.logged).0
           (subst (IsNext g.P.Publishing.checked.plan c.started.inside.slot c.in-Some-next.number) c.in-Skip.is
           c.in-Ok.ensures.next)),
+      c.await_step.ensures.refused ∙ c.loop.invariant.2,
     )
 
 pub returns-in_default-pass_over-clause-tells : goal.returns-in_default-pass_over-clause-tells
@@ -159,6 +163,7 @@ loop-preserved g c =
       takes_kept g.P.Publishing.checked c.args.viewer.now c.loop.viewer c.await_step.new.viewer c.await_step.ensures.sees
           (map (λ commit. arc_value commit) c.loop.taken.items) c.loop.invariant.1 (map (λ commit. arc_value commit) c.reserve.new.self.items)
           (ap (map (λ commit. arc_value commit)) c.reserve.ensures.items),
+      c.await_step.ensures.refused ∙ c.loop.invariant.2,
     )
 
 pub returns-in_default-await_step-clause-tells : goal.returns-in_default-await_step-clause-tells

@@ -1,4 +1,4 @@
-use Rattle.std.specs.Prelude.{map}
+use Rattle.std.specs.Prelude.{◌≡◌, map}
 use Rattle.std.specs.Arc.{arc_value}
 use Rattle.copy_frames.specs.Contents.{copy_both_response}
 use Rattle.senders.specs.Sending.{TakesLogged, TellsOn, started_telling}
@@ -10,3 +10,4 @@ invariant-loop g l =
     (map (λ commit. arc_value commit) l.taken.items) l.voice
     (started_telling g.P.Publishing.checked l.fn.started.0 l.fn.started.1 copy_both_response))
     × TakesLogged g.P.Publishing.checked l.initial.viewer l.viewer (map (λ commit. arc_value commit) l.taken.items)
+    × (g.W.Sink.has_refused l.writer ≡ g.W.Sink.has_refused l.initial.writer)

@@ -1,11 +1,12 @@
-use Rattle.std.proofs.Common.{◌∙◌, ap, refl, sym, subst}
-use Rattle.std.specs.Prelude.{false, []}
+use Rattle.std.proofs.Common.{◌∙◌, ℕ, ap, refl, sym, subst}
+use Rattle.std.specs.Prelude.{Option, false, []}
 use Rattle.shard_checker.specs.CheckedView.{CheckedOf}
 use Rattle.copy_both.specs.Ears.{ear_confirmed}
 use Rattle.publisher_desk.specs.Viewers.{ViewerOf, new_viewer}
 use Rattle.senders.specs.Listening.{HasListened}
 use Rattle.senders.specs.Results.{served_of}
-use Rattle.senders.specs.Serving.{IsServed}
+use Rattle.senders.specs.Running.{ReleasesIf}
+use Rattle.senders.specs.Serving.{IsPermitted, IsServed}
 use Rattle.senders.proofs.RefusedLemmas.{served_nothing}
 use Rattle.senders.proofs.SeenLogs.{sees_on}
 use Rattle.senders.proofs.WitnessLemmas.{holds_by, sees_if, served_by, starts_on, witnessed_by}
@@ -26,7 +27,7 @@ returns-in_default-clause-served g c =
 
 -- the slot of the stream is the connection's own
 pub release_if-requires : goal.release_if-requires
-release_if-requires g c =
+release_if-requires g c number some =
     let checked = g.P.Publishing.checked in
     let fresh : HasListened checked new_viewer [] c.in-Ok.listener =
     subst (λ (k : CheckedOf). HasListened k new_viewer [] c.in-Ok.listener) c.checked.ensures c.in-Ok.ensures.heard in
@@ -38,30 +39,35 @@ release_if-requires g c =
     (subst (λ (viewer : ViewerOf). HasListened checked viewer [] c.in-Ok.listener) (sym c.new-viewer.ensures) fresh)
     c.outcome_of-outcome.result.1 c.outcome_of-outcome.result.0 c.outcome_of-outcome.new.listener.is_requested
     (ear_confirmed c.outcome_of-outcome.new.listener.ear) 0 refl refl
-    c.outcome_of-outcome.ensures c.compare.new.viewer.held c.compare.ensures.held
+    c.outcome_of-outcome.ensures.serves c.compare.new.viewer.held c.compare.ensures.held number
+    (sym c.outcome_of-outcome.ensures.permit ∙ some)
 
 pub new-requires-2 : goal.new-requires-2
 new-requires-2 g c =
     let checked = g.P.Publishing.checked in
+    let released = subst (λ (slot : Option ℕ). ReleasesIf slot c.compare.new.viewer c.release_if.new.viewer)
+    c.outcome_of-outcome.ensures.permit c.release_if.ensures in
     let fresh : HasListened checked new_viewer [] c.in-Ok.listener =
     subst (λ (k : CheckedOf). HasListened k new_viewer [] c.in-Ok.listener) c.checked.ensures c.in-Ok.ensures.heard in
     witnessed_by checked c.new-viewer.result c.outcome_of-outcome.new.viewer c.release_if.new.viewer
     (sees_on c.outcome_of-outcome.new.viewer c.compare.new.viewer c.release_if.new.viewer c.compare.ensures.more
-    (sees_if c.outcome_of-outcome.result.0.slot c.compare.new.viewer c.release_if.new.viewer c.release_if.ensures))
+    (sees_if c.outcome_of-outcome.result.0.slot c.compare.new.viewer c.release_if.new.viewer released))
     (g.S.Source.left c.args.reader.now) (g.S.Source.left c.outcome_of-outcome.new.reader)
     (g.S.Source.has_failed c.outcome_of-outcome.new.reader) (g.S.Source.has_ended c.outcome_of-outcome.new.reader)
     (g.W.Sink.taken c.args.writer.now) (g.W.Sink.taken c.outcome_of-outcome.new.writer)
     (g.W.Sink.has_failed c.outcome_of-outcome.new.writer) c.in-Ok.listener c.outcome_of-outcome.new.listener
     (subst (λ (viewer : ViewerOf). HasListened checked viewer [] c.in-Ok.listener) (sym c.new-viewer.ensures) fresh)
     c.outcome_of-outcome.result.1 c.outcome_of-outcome.result.0 c.is_requested.result c.confirmed.result
-    c.number.result c.is_requested.ensures c.confirmed.ensures c.outcome_of-outcome.ensures c.compare.new.viewer c.compare.ensures.held c.number.ensures
+    c.number.result c.is_requested.ensures c.confirmed.ensures c.outcome_of-outcome.ensures.serves c.compare.new.viewer c.compare.ensures.held c.number.ensures
     (starts_on c.compare.new.viewer c.release_if.new.viewer c.outcome_of-outcome.result.1
-    (sees_if c.outcome_of-outcome.result.0.slot c.compare.new.viewer c.release_if.new.viewer c.release_if.ensures)
-    c.compare.ensures.begins) c.is_accepted.ensures c.release_if.ensures
+    (sees_if c.outcome_of-outcome.result.0.slot c.compare.new.viewer c.release_if.new.viewer released)
+    c.compare.ensures.begins) c.is_accepted.ensures released
 
 pub returns-clause-served : goal.returns-clause-served
 returns-clause-served g c =
     let checked = g.P.Publishing.checked in
+    let released = subst (λ (slot : Option ℕ). ReleasesIf slot c.compare.new.viewer c.release_if.new.viewer)
+    c.outcome_of-outcome.ensures.permit c.release_if.ensures in
     let fresh : HasListened checked new_viewer [] c.in-Ok.listener =
     subst (λ (k : CheckedOf). HasListened k new_viewer [] c.in-Ok.listener) c.checked.ensures c.in-Ok.ensures.heard in
     subst (IsServed checked
@@ -71,11 +77,19 @@ returns-clause-served g c =
     (g.W.Sink.has_failed c.outcome_of-outcome.new.writer)) (sym c.new-2.ensures)
     (served_by checked c.new-viewer.result c.outcome_of-outcome.new.viewer c.release_if.new.viewer
     (sees_on c.outcome_of-outcome.new.viewer c.compare.new.viewer c.release_if.new.viewer c.compare.ensures.more
-    (sees_if c.outcome_of-outcome.result.0.slot c.compare.new.viewer c.release_if.new.viewer c.release_if.ensures))
+    (sees_if c.outcome_of-outcome.result.0.slot c.compare.new.viewer c.release_if.new.viewer released))
     (g.S.Source.left c.args.reader.now) (g.S.Source.left c.outcome_of-outcome.new.reader)
     (g.S.Source.has_failed c.outcome_of-outcome.new.reader) (g.S.Source.has_ended c.outcome_of-outcome.new.reader)
     (g.W.Sink.taken c.args.writer.now) (g.W.Sink.taken c.outcome_of-outcome.new.writer)
     (g.W.Sink.has_failed c.outcome_of-outcome.new.writer) c.in-Ok.listener c.outcome_of-outcome.new.listener
     (subst (λ (viewer : ViewerOf). HasListened checked viewer [] c.in-Ok.listener) (sym c.new-viewer.ensures) fresh)
     c.outcome_of-outcome.result.1 c.outcome_of-outcome.result.0 c.is_requested.result c.confirmed.result
-    c.number.result c.is_requested.ensures c.confirmed.ensures c.outcome_of-outcome.ensures)
+    c.number.result c.is_requested.ensures c.confirmed.ensures c.outcome_of-outcome.ensures.serves)
+
+pub returns-in_default-clause-permitted : goal.returns-in_default-clause-permitted
+returns-in_default-clause-permitted g c slot some = refl
+
+pub returns-clause-permitted : goal.returns-clause-permitted
+returns-clause-permitted g c =
+    subst (IsPermitted (g.W.Sink.has_refused c.args.writer.now)
+    (g.W.Sink.has_refused c.outcome_of-outcome.new.writer)) (sym c.new-2.ensures) c.outcome_of-outcome.ensures.refused

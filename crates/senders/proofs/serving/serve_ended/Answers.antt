@@ -39,7 +39,7 @@ returns-clause-streams g c =
     (taken c.open.new.writer) (taken c.send-sent.new.writer) (taken c.conclude-outcome.new.writer)
     c.send-sent.new.voice c.in-Ok.voice (Some c.args.why) (g.W.Sink.has_failed c.send-sent.new.writer)
     (g.W.Sink.has_failed c.conclude-outcome.new.writer) c.conclude-outcome.result c.send-sent.result.0 c.in-Ok.ensures.ok
-    c.send-sent.ensures.sent c.send-sent.ensures.failed c.conclude-outcome.ensures
+    c.send-sent.ensures.sent c.send-sent.ensures.failed c.conclude-outcome.ensures.concludes
 
 pub returns-in-Err-clause-logged : goal.returns-in-Err-clause-logged
 returns-in-Err-clause-logged g c =
@@ -49,4 +49,4 @@ returns-in-Err-clause-logged g c =
     (ap (map (λ commit. arc_value commit)) c.without_commits-outcome.ensures.none))
 
 pub returns-clause-logged : goal.returns-clause-logged
-returns-clause-logged g c = rw c.conclude-outcome.ensures.taken_is c.send-sent.ensures.logged
+returns-clause-logged g c = rw c.conclude-outcome.ensures.concludes.taken_is c.send-sent.ensures.logged

@@ -7,7 +7,7 @@ use Rattle.senders.specs.Results.{commits_of}
 use Rattle.senders.specs.Sending.{TakesLogged, started_telling}
 use Rattle.senders.specs.declared.end.End.{End}
 use Rattle.senders.specs.Running.{IsWithout}
-use Rattle.senders.proofs.HearingLemmas.{hears_nothing}
+use Rattle.senders.proofs.ReadLemmas.{hears_nothing}
 use Rattle.senders.proofs.SeenLogs.{takes_first}
 use Rattle.senders.proofs.SpeakingLemmas.{rests}
 use Rattle.senders.proofs.StreamingLemmas.{streams_no_further, streams_not, streams_to_its_end}
@@ -58,7 +58,7 @@ returns-clause-runs g c =
           both.new.voice c.in-Ok.voice both.result.2 (g.W.Sink.has_failed both.new.writer)
           (g.W.Sink.has_failed c.conclude-outcome.new.writer) c.conclude-outcome.result both.result.0 c.in-Ok.ensures.ok
           both.ensures.sent
-          both.ensures.failed c.conclude-outcome.ensures;
+          both.ensures.failed c.conclude-outcome.ensures.concludes;
     }
 
 pub returns-in-Err-clause-logged : goal.returns-in-Err-clause-logged
@@ -76,4 +76,4 @@ returns-then-not-starts_threads-clause-logged g c =
     (ap (map (λ commit. arc_value commit)) c.without_commits-outcome-then-not-starts_threads.ensures.none))
 
 pub returns-clause-logged : goal.returns-clause-logged
-returns-clause-logged g c = rw c.conclude-outcome.ensures.taken_is c.run_both-sent.ensures.logged
+returns-clause-logged g c = rw c.conclude-outcome.ensures.concludes.taken_is c.run_both-sent.ensures.logged

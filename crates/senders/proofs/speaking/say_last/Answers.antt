@@ -2,18 +2,18 @@ use Rattle.senders.proofs.SendingLemmas.{on_ok}
 use Rattle.senders.proofs.SpeakingLemmas.{says_done, says_none, says_refused}
 use Rattle.senders.proofs.speaking.say_last.Goals as goal
 
-pub returns-then-not-is_done : goal.returns-then-not-is_done
-returns-then-not-is_done g c =
+pub returns-then-not-is_done-clause-says : goal.returns-then-not-is_done-clause-says
+returns-then-not-is_done-clause-says g c =
     says_none c.args.stop c.args.why (g.W.Sink.taken c.args.writer.now) (g.W.Sink.has_failed c.args.writer.now)
     c.in-ConnectionEnded.is (c.is_done.ensures.not c.if-not-is_done.true)
 
-pub returns-then-is_err : goal.returns-then-is_err
-returns-then-is_err g c =
+pub returns-then-is_err-clause-says : goal.returns-then-is_err-clause-says
+returns-then-is_err-clause-says g c =
     says_refused c.args.stop c.args.why (g.W.Sink.taken c.args.writer.now) (g.W.Sink.has_failed c.args.writer.now)
     c.in-ConnectionEnded.is
 
-pub returns : goal.returns
-returns g c =
+pub returns-clause-says : goal.returns-clause-says
+returns-clause-says g c =
     let taken = g.W.Sink.taken in
     let has_failed = g.W.Sink.has_failed in
     says_done c.args.stop c.args.why (taken c.args.writer.now) (taken c.flush.new.writer)

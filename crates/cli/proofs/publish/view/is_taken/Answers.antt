@@ -1,5 +1,5 @@
 use Rattle.std.proofs.Common.{refl}
-use Rattle.cli.proofs.SlotLemmas.{book_looked, kept_uses, then_changes, to_its_own}
+use Rattle.cli.proofs.SlotLemmas.{book_looked, kept_confirmed, kept_uses, looked_confirmed, then_changes, to_its_own}
 use Rattle.cli.proofs.publish.view.is_taken.Goals as goal
 
 pub returns-in-Ok-clause-slots : goal.returns-in-Ok-clause-slots
@@ -16,3 +16,10 @@ returns-in-Err-clause-slots c = to_its_own c.args.book.now c.start.new.self _ c.
 
 pub returns-in-Err-clause-uses : goal.returns-in-Err-clause-uses
 returns-in-Err-clause-uses c = kept_uses c.args.book.now c.start.new.self _ c.in-Err.ensures.err refl
+
+pub returns-in-Ok-clause-confirmed : goal.returns-in-Ok-clause-confirmed
+returns-in-Ok-clause-confirmed c =
+    looked_confirmed c.args.book.now c.start.new.self c.release.new.self c.args.slot c.in-Ok.ensures.ok c.release.ensures
+
+pub returns-in-Err-clause-confirmed : goal.returns-in-Err-clause-confirmed
+returns-in-Err-clause-confirmed c = kept_confirmed c.args.book.now c.start.new.self c.in-Err.ensures.err

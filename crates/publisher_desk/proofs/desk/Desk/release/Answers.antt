@@ -13,7 +13,8 @@ invariant_of-self g c = record {
   sent = search rules;
   history_is = search rules;
   events_are = released_events c.self.inside.book c.release.new.self c.self.inside.slots _ (release c.args.slot c.log_len-commits.result)
-      c.log_len-commits.ensures.shows c.self.invariant.events_are c.release.ensures c.release-2.ensures.log;
+      c.log_len-commits.ensures.shows c.self.invariant.events_are c.release.ensures c.release-2.ensures.log
+      (slot_sight_of c.args.slots.now) (slot_sight_of c.release-2.new.token) c.release-2.ensures.seen;
 }
 
 pub returns-clause-released : goal.returns-clause-released

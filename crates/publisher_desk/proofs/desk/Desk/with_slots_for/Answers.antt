@@ -37,5 +37,5 @@ invariant_of-self g c = record {
   sent = grind (arith, common_steps);
   history_is = search rules;
   events_are = kept_events c.self.inside.book c.use_slots-answer.new.book _ c.self.inside.slots
-      c.use_slots-answer.ensures.slots c.use_slots-answer.ensures.uses c.self.invariant.events_are;
+      c.use_slots-answer.ensures.slots c.use_slots-answer.ensures.uses c.use_slots-answer.ensures.confirmed c.self.invariant.events_are;
 }

@@ -1,7 +1,7 @@
 use Rattle.std.proofs.Common.{refl}
 use Rattle.publisher_desk.specs.Sights.{sight_of}
 use Rattle.publisher_desk.specs.SlotSights.{slot_sight_of}
-use Rattle.publisher_desk.proofs.SlotLemmas.{used_accepted, used_has, used_if, used_more, used_owns}
+use Rattle.publisher_desk.proofs.StreamLemmas.{used_accepted, used_has, used_if, used_more, used_owns}
 use Rattle.publisher_desk.proofs.publisher.Publisher.with_stream.Goals as goal
 
 pub invariant_of-viewer : goal.invariant_of-viewer

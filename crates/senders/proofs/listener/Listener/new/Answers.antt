@@ -23,6 +23,6 @@ returns-clause-heard c =
       requested = λ slot start started says. cc;
       confirmed = subst (λ (o : Option (ℕ × ℕ)). HasConfirmedAll o (frames_in []) (ear_confirmed new.result))
           (sym new.ensures.started) new.ensures.confirmed;
-      holding = subst (λ (start : Option (ℕ × ℕ)). HoldsStream start false 0 None) (sym new.ensures.started)
-          (refl, refl);
+      holding = subst (λ (start : Option (ℕ × ℕ)). HoldsStream start false 0 (ear_confirmed new.result) None)
+          (sym new.ensures.started) (refl, refl, refl);
     }

@@ -1,15 +1,16 @@
-use Rattle.std.proofs.Common.{◌≡◌, ◌∙◌, ◌<◌, ℕ, List, Option, ap, is_some, length, refl, slice_index, subst, sym, take, arith}
+use Rattle.std.proofs.Common.{◌≡◌, ◌∙◌, ◌<◌, ◌≤◌, ℕ, List, Option, ap, is_some, length, refl, slice_index, subst, sym, take, arith}
 use Rattle.filter_tree.specs.Memory.{Answers}
 use Rattle.tables_log.specs.BookView.{book_log, book_slots}
 use Rattle.tables_log.specs.Lsn.{end_lsn_of}
 use Rattle.tables_log.specs.Slots.{confirmed_at}
-use Rattle.copy_both.specs.Ears.{HearLeaves, ear_phase, ear_started, hear_answer}
+use Rattle.copy_both.specs.Ears.{HearLeaves, ear_confirmed, ear_phase, ear_started, hear_answer}
 use Rattle.copy_both.specs.Voices.{reported_fault}
 use Rattle.copy_both.specs.declared.ear.Ear.{Ear}
 use Rattle.copy_both.proofs.StartUses.{starts_take_slots}
 use Rattle.senders.specs.Hearing.{IsSentFrom, sent_by}
-use Rattle.senders.specs.Listening.{piece_of}
-use Rattle.senders.proofs.StartingLemmas.{acquires_for, compares_by, ear_kept, may_acquire, room_kept}
+use Rattle.senders.specs.Listening.{NotesConfirmed, piece_of}
+use Rattle.copy_both.proofs.RaisedSlots.{Raises, hearing_raises}
+use Rattle.senders.proofs.StartingLemmas.{acquires_for, compares_by, ear_kept, may_acquire, may_confirm, room_kept, slots_few}
 use Rattle.senders.proofs.listener.ListenerStreamTask.use_stream.Goals as goal
 
 module _ (c : goal.Joined-stream) where
@@ -25,15 +26,26 @@ module _ (c : goal.Joined-stream) where
   sent_heard = c.sent_position-sent.ensures
       ∙ ap (λ (started : Option (ℕ × ℕ)). sent_by started c.args.connections.now) c.stream-2.ensures
 
+  few : length (book_slots c.args.book.now) ≤ length c.confirmed_positions-confirmed.result
+  few = let all = slots_few c.args.book.now in omega (arith, all)
+
+  was_is : c.is_some-was_started.result ≡ is_some (ear_started c.args.self.now.ear)
+  was_is = c.is_some-was_started.ensures ∙ ap is_some c.stream.ensures
+
+  raised : Raises (ear_started c.args.self.now.ear) (ear_started c.hear_piece-heard.new.ear)
+      (book_slots c.args.book.now) (book_slots c.hear_piece-heard.new.book) (ear_confirmed c.args.self.now.ear)
+      (ear_confirmed c.hear_piece-heard.new.ear)
+  raised = hearing_raises c.args.self.now.ear c.hear_piece-heard.new.ear c.args.book.now c.hear_piece-heard.new.book
+      _ _ c.hear_piece-heard.result c.hear_piece-heard.ensures.left
+
 pub returns-clause-did : goal.returns-clause-did
 returns-clause-did c =
-    let was_is = c.is_some-was_started.ensures ∙ ap is_some c.stream.ensures in
     let same = ear_kept c.args.self.now _ c.acquire-acquired.new.self c.args.book.now c.hear_piece-heard.new.book
-    c.is_some-was_started.result c.confirmed_positions-confirmed.result c.args.number was_is (positions c)
-    refl refl c.acquire-acquired.result c.acquire-acquired.ensures in
+    c.is_some-was_started.result c.confirmed_positions-confirmed.result c.args.number (was_is c) (positions c) (few c)
+    (raised c) refl refl c.acquire-acquired.result c.acquire-acquired.ensures in
     let compares = compares_by c.args.self.now _ c.acquire-acquired.new.self c.args.book.now c.hear_piece-heard.new.book
-    c.is_some-was_started.result c.confirmed_positions-confirmed.result c.args.number was_is (positions c)
-    refl refl c.acquire-acquired.result c.acquire-acquired.ensures in (
+    c.is_some-was_started.result c.confirmed_positions-confirmed.result c.args.number (was_is c) (positions c) (few c)
+    (raised c) refl refl c.acquire-acquired.result c.acquire-acquired.ensures in (
       record {
         answer = subst (λ (piece : List ℕ). Answers (λ heard. heard) reported_fault (hear_answer c.args.self.now.ear
             c.args.book.now piece (sent_by (ear_started c.args.self.now.ear) c.args.connections.now))
@@ -56,20 +68,31 @@ returns-clause-did c =
             (end_lsn_of (length (book_log c.args.book.now)))) (sym same)
             (c.hear_piece-heard.ensures.reaches ahead);
         room = room_kept c.args.self.now _ c.acquire-acquired.new.self c.args.book.now c.hear_piece-heard.new.book
-            c.is_some-was_started.result c.confirmed_positions-confirmed.result c.args.number was_is (positions c)
-            refl refl c.acquire-acquired.result c.acquire-acquired.ensures;
-        compares = record { late = compares.late; stays = compares.stays };
+            c.is_some-was_started.result c.confirmed_positions-confirmed.result c.args.number (was_is c) (positions c)
+            (few c) (raised c) refl refl c.acquire-acquired.result c.acquire-acquired.ensures;
+        compares = record { from = compares.from; stays = compares.stays };
       },
       acquires_for c.args.self.now _ c.acquire-acquired.new.self c.args.book.now c.hear_piece-heard.new.book
-          c.is_some-was_started.result c.confirmed_positions-confirmed.result c.args.number was_is (positions c)
-          refl refl c.acquire-acquired.result c.acquire-acquired.ensures,
+          c.is_some-was_started.result c.confirmed_positions-confirmed.result c.args.number (was_is c) (positions c)
+          (few c) (raised c) refl refl c.acquire-acquired.result c.acquire-acquired.ensures,
     )
 
 pub returns-clause-acquires : goal.returns-clause-acquires
 returns-clause-acquires c =
-    let was_is = c.is_some-was_started.ensures ∙ ap is_some c.stream.ensures in
     may_acquire c.args.self.now _ c.acquire-acquired.new.self c.args.book.now c.hear_piece-heard.new.book
-    c.is_some-was_started.result c.confirmed_positions-confirmed.result c.args.number was_is (positions c)
-    refl refl c.acquire-acquired.result c.acquire-acquired.ensures
+    c.is_some-was_started.result c.confirmed_positions-confirmed.result c.args.number (was_is c) (positions c) (few c)
+    (raised c) refl refl c.acquire-acquired.result c.acquire-acquired.ensures
     (starts_take_slots c.args.self.now.ear c.hear_piece-heard.new.ear c.args.book.now c.hear_piece-heard.new.book
     _ _ c.hear_piece-heard.result c.hear_piece-heard.ensures.left)
+
+pub returns-clause-confirms : goal.returns-clause-confirms
+returns-clause-confirms c =
+    let same = ear_kept c.args.self.now _ c.acquire-acquired.new.self c.args.book.now c.hear_piece-heard.new.book
+    c.is_some-was_started.result c.confirmed_positions-confirmed.result c.args.number (was_is c) (positions c) (few c)
+    (raised c) refl refl c.acquire-acquired.result c.acquire-acquired.ensures in
+    may_confirm c.args.self.now _ c.acquire-acquired.new.self c.args.book.now c.hear_piece-heard.new.book
+    c.is_some-was_started.result c.confirmed_positions-confirmed.result c.args.number (was_is c) (positions c) (few c)
+    (raised c) refl refl c.acquire-acquired.result c.acquire-acquired.ensures c.confirmation-confirmed.result
+    (subst (λ (started : Option (ℕ × ℕ)). NotesConfirmed started c.confirmed_positions-confirmed.result
+    (book_slots c.hear_piece-heard.new.book) c.confirmation-confirmed.result)
+    (c.stream-3.ensures ∙ ap ear_started same) c.confirmation-confirmed.ensures)

@@ -1,7 +1,7 @@
 use Rattle.std.proofs.Common.{◌≡◌}
 use Rattle.std.specs.Io.KnownBytes.{Keeps}
-use Rattle.senders.proofs.sink.ToWriteSink.push.Given as goal
+use Rattle.senders.proofs.sink.ToWrite.write_some.Given as goal
 
 abbrev pub invariant-loop : goal.invariant-loop
 invariant-loop g l = Keeps (g.W.Write.contents l.fn.self.writer) (g.W.Write.contents l.self.writer)
-    × (l.self.failed ≡ l.fn.self.failed)
+    × (l.self.failed ≡ l.fn.self.failed) × (l.self.refused ≡ l.fn.self.refused)
