@@ -9,6 +9,7 @@ import sys
 import threading
 from collections.abc import Iterator
 
+from beside import beside, halves
 from part_runner import SERVER, Need, Part, Shared, run_part, run_parts
 from parts import PARTS
 from tally import Tally
@@ -27,6 +28,7 @@ def check_parts(tally: Tally) -> None:
     check_runner(tally)
     check_time(tally)
     check_server(tally)
+    check_beside(tally)
     check_command_line(tally)
 
 
@@ -113,6 +115,26 @@ def check_server(tally: Tally) -> None:
         tally.check("starts of the server before a part needs it", told, [])
         tally.check("parts with the server", run(needs + needs, shares)[:2], (2, 0))
     tally.check("starts and stops of the server", told, ["start", "stop"])
+
+
+def check_beside(tally: Tally) -> None:
+    """Tests which parts run beside the others, and what is printed and counted of them."""
+    without, with_server = halves(PARTS)
+    tally.check("the parts of both processes", sorted(it.name for it in [*without, *with_server]),
+                sorted(it.name for it in PARTS))
+    tally.check("parts without a server that need one", [it.name for it in without if SERVER in it.needs], [])
+    for said, counts, printed in [
+        ("one: 2 passed, 1 failed, 0.1 s\n2 passed, 1 failed\n", (3, 1), "first\none: 2 passed, 1 failed, 0.1 s\n"),
+        ("broken\n", (1, 1), "first\nbroken\nfailed: the parts that need a server ended with status 3, and did not "
+                             "count their checks\n"),
+    ]:
+        own, output = Tally(), io.StringIO()
+        code = f"import sys; sys.stdout.write({said!r}); sys.exit(3)"
+        with contextlib.redirect_stdout(output), beside(own, [sys.executable, "-c", code]):
+            print("first")
+            passes(own)
+        tally.check(f"the counts with a process that says {said!r}", (own.passed, own.failed), counts)
+        tally.check(f"what is printed with a process that says {said!r}", output.getvalue(), printed)
 
 
 def check_command_line(tally: Tally) -> None:

@@ -1,5 +1,4 @@
-//! Tests of connections that threads serve, and of the closing comparison, by the public calls of `senders`; and of the
-//! whole program, by `run_serving` and `run` of `cli`.
+//! Tests of connections that threads serve, and of the closing comparison, by the public calls of `senders`.
 #![tactic(auto)]
 
 #[cfg(test)]
@@ -27,8 +26,6 @@ mod memory;
 #[cfg(test)]
 mod phrases;
 #[cfg(test)]
-mod program;
-#[cfg(test)]
 mod prompted;
 #[cfg(test)]
 mod rounds;
@@ -44,8 +41,6 @@ mod sharding;
 mod sizes;
 #[cfg(test)]
 mod sockets;
-#[cfg(test)]
-mod streams;
 #[cfg(test)]
 mod talks;
 #[cfg(test)]

@@ -1,6 +1,6 @@
 """Usage errors, help and versions.
 
-An empty command line, which lacks even the program's name, is tested in crates/sender_tests.
+An empty command line, which lacks even the program's name, is tested in crates/program_tests.
 """
 
 from collections.abc import Iterator
