@@ -122,18 +122,24 @@ class Meter:
         return totals
 
     def slow(self) -> list[tuple[str, float]]:
-        """Returns the edits that took more than 40 seconds, with their seconds."""
+        """Returns the edits that took more than 40 seconds, with their seconds. A version of rt that does not number
+        edits tells only those apart that are the only one of their crate."""
         seconds: Counter[Part] = Counter()
         for key, part in self.parts.items():
-            if part.kind == "edits":
+            if part.kind == "edits" and (part.edit is not None or len(edits_of(part.crate)) == 1):
                 seconds[part] += self.seconds[key]
         return [(name_of(part), each) for part, each in seconds.most_common() if each > SLOW]
+
+
+def edits_of(crate: str) -> list[str]:
+    """Returns the names of a crate's edits, in order."""
+    return sorted(path.stem for path in pathlib.Path("crates", crate, "must-fail").glob("*.edit"))
 
 
 def name_of(part: Part) -> str:
     """Returns the name of an edit. rt numbers the edits of a crate from 0, in the order of their names; an edit without
     a number is the only one."""
-    edits = sorted(path.stem for path in pathlib.Path("crates", part.crate, "must-fail").glob("*.edit"))
+    edits = edits_of(part.crate)
     number = part.edit or 0
     return f"{part.crate}/{edits[number] if number < len(edits) else number}"
 

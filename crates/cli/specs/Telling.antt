@@ -42,7 +42,6 @@ name_of e.ReadingWrong = Some (codes "ReadingWrong")
 name_of e.TakenDiffers = Some (codes "TakenDiffers")
 name_of e.ConnectionMissing = Some (codes "ConnectionMissing")
 name_of e.StartLate = Some (codes "StartLate")
-name_of e.StartEarly = Some (codes "StartEarly")
 name_of e.SlotDiffers = Some (codes "SlotDiffers")
 name_of e.OutOfMemory = None
 

@@ -55,7 +55,6 @@ pub(crate) fn name_of(error: CloseError) -> Option<&'static str>
         CloseError::TakenDiffers => Some("TakenDiffers"),
         CloseError::ConnectionMissing => Some("ConnectionMissing"),
         CloseError::StartLate => Some("StartLate"),
-        CloseError::StartEarly => Some("StartEarly"),
         CloseError::SlotDiffers => Some("SlotDiffers"),
         CloseError::OutOfMemory => None,
     }

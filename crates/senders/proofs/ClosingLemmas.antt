@@ -36,7 +36,7 @@ use Rattle.publisher_desk.specs.Viewers.{ClosingOf, IsSeenIn, log_seen}
 use Rattle.senders.specs.Gathering.{receipts_in, all_receipts, all_readings, numbers_of, IsRisingSeat}
 use Rattle.senders.specs.Histories.{AreInOrder, AreWitnessed, IsLogOfSeats, IsRight}
 use Rattle.senders.specs.Replays.{IsAsLong, IsConfirmedAs, IsUnlikeIn, Replays}
-use Rattle.senders.specs.Reached.{AllEndAsConfirmed, AreReached, AreResumed, IsOrder, LacksConnection}
+use Rattle.senders.specs.Reached.{AllEndReached, AreReached, IsOrder, LacksConnection}
 use Rattle.senders.specs.Results.{ServedOf}
 use Rattle.senders.specs.Starts.{AreInTime, AreOrdered, IsStartCause}
 use Rattle.senders.specs.TakenCommits.{IsTaken, IsWhole}
@@ -46,6 +46,7 @@ use Rattle.senders.proofs.KeptConfirmed.{none_in_use}
 use Rattle.senders.proofs.LoggedLemmas.{can_come, explained_count, long as logged_long, order_logged}
 use Rattle.senders.proofs.NumberLemmas.{rise_is_range}
 use Rattle.senders.proofs.ReplayLemmas.{replays_all}
+use Rattle.senders.proofs.ResumeLemmas.{all_kept, all_resumed}
 use Rattle.senders.proofs.TakenLemmas.{had_all, not_taken, taken_all}
 
 -- ---- slots
@@ -140,7 +141,6 @@ unlike_cause book acquired seats served order f.ReadingWrong ordered long unlike
 unlike_cause book acquired seats served order f.TakenDiffers ordered long unlike = absurd unlike
 unlike_cause book acquired seats served order f.ConnectionMissing ordered long unlike = absurd unlike
 unlike_cause book acquired seats served order f.StartLate ordered long unlike = absurd unlike
-unlike_cause book acquired seats served order f.StartEarly ordered long unlike = absurd unlike
 unlike_cause book acquired seats served order f.SlotDiffers ordered long unlike = absurd unlike
 unlike_cause book acquired seats served order f.OutOfMemory ordered long unlike = tt
 
@@ -209,11 +209,8 @@ module _ (book fresh : Book) (seats : List SeatOf) (order : List ReceiptOf) (ord
         missing = cause;
       }
       start_cause f.StartLate cause = has_starts (λ slots starts. ¬ AreReached slots starts) cause
-      start_cause f.StartEarly cause =
-          has_starts (λ slots starts. AreReached slots starts × ¬ AreResumed slots starts) cause
       start_cause f.SlotDiffers cause =
-          has_starts (λ slots starts. AreReached slots starts × AreResumed slots starts
-          × ¬ AllEndAsConfirmed slots (book_slots book) starts) cause
+          has_starts (λ slots starts. AreReached slots starts × ¬ AllEndReached slots (book_slots book) starts) cause
       start_cause f.OutOfMemory cause = tt
 
       is_closed : AreInTime (length (book_checked book).catalog.subscriptions) (book_slots book) acquired served
@@ -249,9 +246,14 @@ module _ (book fresh : Book) (seats : List SeatOf) (order : List ReceiptOf) (ord
             starts = times.starts;
             ordered_starts = subst (λ n. IsOrder n served times.starts) told.count times.ordered;
             reached = times.reached;
-            resumed = times.resumed;
-            kept = subst (λ (slots : List Slot). AllEndAsConfirmed (length (book_checked book).catalog.subscriptions) slots
-                times.starts) slots_are times.kept;
+            resumed = all_resumed closing.events told.turns served times.starts acquired
+                (length (book_checked book).catalog.subscriptions) times.ordered
+                (had_all book closing acquired seats served told);
+            kept = all_kept closing.events told.turns served times.starts acquired
+                (length (book_checked book).catalog.subscriptions) times.ordered
+                (had_all book closing acquired seats served told) closing.slots told.known
+                (subst (λ (slots : List Slot). AllEndReached (length (book_checked book).catalog.subscriptions) slots
+                times.starts) slots_are times.kept);
           }
 
 -- ---- what is compared, where lists are seen as slices
@@ -438,13 +440,10 @@ module _ (checked : CheckedOf) (limit all left : ℕ) (closing : ClosingOf) (sea
       subst (λ (n : ℕ). LacksConnection n served) acquired_is cause.missing,
     )
     reason f.StartLate cause can = starts_are (λ slots starts. ¬ AreReached slots starts) cause
-    reason f.StartEarly cause can =
-        starts_are (λ slots starts. AreReached slots starts × ¬ AreResumed slots starts) cause
     reason f.SlotDiffers cause can =
-        starts_are (λ slots starts. AreReached slots starts × AreResumed slots starts
-        × ¬ AllEndAsConfirmed slots closing.slots starts)
+        starts_are (λ slots starts. AreReached slots starts × ¬ AllEndReached slots closing.slots starts)
         (subst (λ (list : List Slot). HasStarts book acquired seats served (λ slots starts. AreReached slots starts
-        × AreResumed slots starts × ¬ AllEndAsConfirmed slots list starts)) slots_are cause)
+        × ¬ AllEndReached slots list starts)) slots_are cause)
     reason f.OutOfMemory cause can = tt
 
     pub refused_as_named : (gathered : List SeatOf) (shown : List ServedOf) (error : CloseError) → gathered ≡ seats

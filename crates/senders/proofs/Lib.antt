@@ -12,6 +12,7 @@ pub mod KeptConfirmed
 pub mod LoggedLemmas
 pub mod MemoryLemmas
 pub mod NumberLemmas
+pub mod OrderLemmas
 pub mod PermitLemmas
 pub mod ReachLemmas
 pub mod ReadLemmas

@@ -23,7 +23,7 @@ use Rattle.publisher_desk.specs.Logged.{AreNoted, AreSeatsIn, IsReadIn, IsSeatIn
 use Rattle.publisher_desk.specs.Receipts.{ReceiptOf, transaction_of, transactions_of}
 use Rattle.publisher_desk.specs.Seats.{SeatOf}
 use Rattle.publisher_desk.specs.Sights.{times}
-use Rattle.publisher_desk.specs.SlotEvents.{acquisitions}
+use Rattle.publisher_desk.specs.SlotEvents.{AreConfirmed, AreInTurn, acquisitions, confirmed_after, no_position, no_use}
 use Rattle.publisher_desk.specs.Viewers.{ClosingOf, IsSeenIn}
 use Rattle.publisher_desk.specs.declared.note.Note.{Note}
 use Rattle.publisher_desk.specs.declared.note.Note.TheVariants.{Committed, Looked}
@@ -356,7 +356,6 @@ module _ (checked : CheckedOf) (log : List ReceiptOf) (book : Book) (seats : Lis
   can_come acquired served f.TakenDiffers cause = tt
   can_come acquired served f.ConnectionMissing cause = tt
   can_come acquired served f.StartLate cause = tt
-  can_come acquired served f.StartEarly cause = tt
   can_come acquired served f.SlotDiffers cause = tt
   can_come acquired served f.OutOfMemory cause = tt
 
@@ -366,10 +365,11 @@ pub witnessed_as_named : (checked : CheckedOf) (closing : ClosingOf) (acquired :
     (served told : List ServedOf) (book : Book) → book_checked book ≡ checked
     → StandsFor book (transactions_of closing.log) → acquired ≡ acquisitions closing.events → seen ≡ seats
     → told ≡ served → AreSeatsIn (setting_in checked) closing.log seats → All (IsWitnessed checked) served
-    → All (λ (one : ServedOf). IsSeenIn closing one.viewer) served
+    → All (λ (one : ServedOf). IsSeenIn closing one.viewer) served → AreInTurn no_use no_position closing.events
+    → AreConfirmed (confirmed_after closing.events) closing.slots
     → AreWitnessed (book_checked book) closing acquired seen told book
 witnessed_as_named checked closing acquired seats seen served told book named stands count same alike seats_in witnessed
-    shown =
+    shown turns known =
     subst (λ (one : CheckedOf). AreWitnessed one closing acquired seen told book) (sym named)
     (subst (λ (list : List SeatOf). AreWitnessed checked closing acquired list told book) (sym same)
     (subst (λ (list : List ServedOf). AreWitnessed checked closing acquired seats list book) (sym alike) (record {
@@ -377,4 +377,6 @@ witnessed_as_named checked closing acquired seats seen served told book named st
       witnessed = witnessed;
       seen = shown;
       count = count;
+      turns = turns;
+      known = known;
     })))

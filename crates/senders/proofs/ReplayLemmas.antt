@@ -180,7 +180,6 @@ module _ (book old : Book) (order : List ReceiptOf) (receipt : ReceiptOf) (place
   missing_one long f.TakenDiffers missing = missing
   missing_one long f.ConnectionMissing missing = missing
   missing_one long f.StartLate missing = missing
-  missing_one long f.StartEarly missing = missing
   missing_one long f.SlotDiffers missing = missing
   missing_one long f.OutOfMemory missing = tt
 

@@ -1,144 +1,176 @@
--- How far the clients of a slot confirmed the log, connection by connection in the order of their numbers; and whether
--- the slot is confirmed up to there in the end.
-use Rattle.std.proofs.Common.{◌≡◌, ◌≢◌, ℕ, ◌+◌, ◌<◌, ◌≤◌, max, List, [], ◌∷◌, ◌++◌, length, refl, sym, ap, subst, ◌∙◌, arith, leb, ltb, length-append}
+-- That no stream starts before a position that an earlier one of its slot reports as confirmed, and that no slot is
+-- confirmed before such a position in the end: by the order of events.
+use Rattle.std.proofs.Common.{◌≡◌, ℕ, ◌+◌, ◌<◌, ◌≤◌, max, List, [], ◌∷◌, ◌++◌, length, map, get_or, Bool, true, false, refl, sym, ap, subst, ◌∙◌, arith, leb, ltb, length-append}
 use Rattle.std.proofs.lemmas.Bool.{leb-true, leb-false, ltb-true, ltb-false}
-use Rattle.std.proofs.lemmas.List.Elements.{All-nil, All-pop, All-push, All-weaker}
-use Rattle.std.specs.Prelude.{All, Bool, IfNone, MatchBool, None, OnSome, Option, Some, is_some, unwrap_or}
+use Rattle.std.proofs.lemmas.List.{get_or-map, get_or_append_left}
+use Rattle.std.proofs.lemmas.List.Elements.{All-cons, All-head, All-nil, All-tail}
+use Rattle.std.proofs.lemmas.List.FromFn.{get_or-range_with_len}
+use Rattle.std.proofs.lemmas.List.Sorted.{All-permutation}
+use Rattle.std.proofs.Math.Seq.{get_or-append_seam}
+use Rattle.std.specs.List.{range_with_len}
+use Rattle.std.specs.Prelude.{All, IfNone, MatchBool, None, OnSome, Option, Some, is_some, unwrap_or}
 use Rattle.filter_tree.proofs.Tests.{by_test}
 use Rattle.tables_log.specs.Lsn.{commits_before}
 use Rattle.tables_log.specs.Slots.{confirmed_at}
 use Rattle.tables_log.specs.declared.slots.Slot.{Slot}
-use Rattle.senders.specs.Reached.{AllEndAsConfirmed, AreResumed, EndsAsConfirmed, IsResumed}
-use Rattle.senders.specs.Results.{ServedOf}
-use Rattle.senders.specs.Starts.{IsGreatest, IsReach}
-use Rattle.senders.proofs.ReachLemmas.{IsLast, IsPlaced, IsWithin, placed}
+use Rattle.publisher_desk.specs.SlotEvents.{AreConfirmed, AreInTurn, confirmed_after, no_position, no_use}
+use Rattle.publisher_desk.specs.SlotSights.{hold}
+use Rattle.publisher_desk.specs.Viewers.{HadSlot}
+use Rattle.publisher_desk.specs.declared.slot_event.SlotEvent.{SlotEvent}
+use Rattle.publisher_desk.specs.declared.slot_sight.Hold.{Hold}
+use Rattle.senders.specs.Closing.{HadStreamIn}
+use Rattle.senders.specs.Reached.{AllEndAsConfirmed, AllEndReached, AreResumed, EndsReached, IsOrder, IsResumed, if_started, numbers_in, started_in}
+use Rattle.senders.specs.Results.{HadStream, ServedOf, StartsFrom, acquisition}
+use Rattle.senders.specs.Starts.{IsReach}
+use Rattle.senders.proofs.OrderLemmas.{finds, stays_confirmed}
+use Rattle.senders.proofs.ReachLemmas.{long_count}
 
--- if it is of the slot, its client confirmed nothing after this position
-abbrev pub ConfirmsTo : ℕ → ℕ → ServedOf → Type 0
-ConfirmsTo slot position one = one.slot ≡ Some slot → one.confirmed ≤ position
+-- ---- the stream of a connection
 
--- Of these connections, in their order: this is the greatest position that a client of one of the slot confirmed; and
--- none of the slot starts before what was confirmed.
-pub record AreResumedTo (slot greatest : ℕ) (order : List ServedOf) : Type 0 where
-  pub passed : All (ConfirmsTo slot greatest) order
-  pub least : (position : ℕ) → All (ConfirmsTo slot position) order → greatest ≤ position
-  pub so_far : IsResumed order slot
+-- A stream of this slot, of this number, had the slot in these events. It found it confirmed up to its start at most,
+-- and left it confirmed up to what it reports at least.
+record HadSlotFrom (events : List SlotEvent) (slot number confirmed start : ℕ) : Type 0 where
+  held : Hold
+  commits : ℕ
+  had : HadSlot events held commits
+  slot_is : held.acquisition.slot ≡ slot
+  number_is : held.number ≡ number
+  left : confirmed ≤ held.confirmed
+  found : held.found ≤ start
 
-pub none_resumed : (slot : ℕ) → AreResumedTo slot 0 []
-none_resumed slot = record {
-  passed = All-nil (ConfirmsTo slot 0);
-  least = λ position all. omega arith;
-  so_far = λ earlier one later same of. absurd (omega (arith, ap length same, length-append earlier (one ∷ later)));
+starts_low : (found start : ℕ) (is_requested : Bool) → StartsFrom found start is_requested → found ≤ start
+starts_low found start true from = omega (arith, from)
+starts_low found start false from = omega (arith, from)
+
+had_from : (events : List SlotEvent) (its start : Option ℕ) (is_requested : Bool) (number confirmed commits slot : ℕ)
+    → HadStream its start is_requested number confirmed commits events → its ≡ Some slot
+    → HadSlotFrom events slot number confirmed (unwrap_or start 0)
+had_from events (Some its) (Some start) is_requested number confirmed commits slot had same = record {
+  held = hold (acquisition its start is_requested) number had.found (max had.found confirmed);
+  commits = commits;
+  had = had.had;
+  slot_is = cc;
+  number_is = refl;
+  left = omega arith;
+  found = starts_low had.found start is_requested had.from;
 }
+had_from events (Some its) None is_requested number confirmed commits slot had same = absurd had
+had_from events None (Some start) is_requested number confirmed commits slot had same = absurd had
+had_from events None None is_requested number confirmed commits slot had same = absurd cc
 
-pub greatest_is : (slot greatest : ℕ) (order : List ServedOf) → AreResumedTo slot greatest order
-    → IsGreatest order slot greatest
-greatest_is slot greatest order so_far = record { all = so_far.passed; least = so_far.least }
+-- ---- the connections that started a stream
 
-module _ (slot greatest : ℕ) (order : List ServedOf) (one : ServedOf) (before : AreResumedTo slot greatest order) where
-  -- what is so of all is so of those before it
-  least_more : (position : ℕ) → All (ConfirmsTo slot position) (order ++ one ∷ []) → greatest ≤ position
-  least_more position all = before.least position
-      (All-pop (ConfirmsTo slot position) (order ++ one ∷ []) order (Some one) refl all).0
+if_all : (P : ServedOf → Type 0) (start : Option ℕ) (one : ServedOf) (others : List ServedOf) → P one → All P others
+    → All P (if_started start one others)
+if_all P None one others first rest = rest
+if_all P (Some start) one others first rest = All-cons P one others first rest
 
-  -- so are the starts, if its own is
-  starts_more : (one.slot ≡ Some slot → All (ConfirmsTo slot (unwrap_or one.start 0)) order)
-      → IsResumed (order ++ one ∷ []) slot
-  starts_more own earlier other later same = at (placed order earlier later one other same)
-    where
-      at : IsPlaced order earlier one other → other.slot ≡ Some slot
-          → All (ConfirmsTo slot (unwrap_or other.start 0)) earlier
-      at (IsLast first is) of =
-          subst (λ (list : List ServedOf). All (ConfirmsTo slot (unwrap_or other.start 0)) list) (sym first)
-          (subst (λ (it : ServedOf). All (ConfirmsTo slot (unwrap_or it.start 0)) order) (sym is)
-          (own (ap (λ (it : ServedOf). it.slot) (sym is) ∙ of)))
-      at (IsWithin rest first) of = before.so_far earlier other rest first of
+started_all : (P : ServedOf → Type 0) (all : List ServedOf) → All P all → All P (started_in all)
+started_all P [] each = All-nil P
+started_all P (one ∷ all) each =
+    if_all P one.start one (started_in all) (All-head P one all each) (started_all P all (All-tail P one all each))
 
-  pub after_another : one.slot ≢ Some slot → AreResumedTo slot greatest (order ++ one ∷ [])
-  unfolding least_more starts_more
-  after_another other = record {
-    passed = All-push (ConfirmsTo slot greatest) order one before.passed (λ its. absurd (other its));
-    least = least_more;
-    so_far = starts_more (λ its. absurd (other its));
+module _ (events : List SlotEvent) (turns : AreInTurn no_use no_position events) (served order : List ServedOf)
+    (count slots : ℕ) (ordered : IsOrder count served order) (had : All (HadStreamIn events) served) where
+  each : All (HadStreamIn events) order
+  each = All-permutation (HadStreamIn events) (started_in served) order ordered.same
+      (started_all (HadStreamIn events) served had)
+
+  number_at : (place : ℕ) (other : ServedOf) → place < length order → (get_or order place other).number ≡ place + 1
+  number_at place other below =
+      let long = long_count order count ordered.numbered in
+      let shown = get_or-map (λ (one : ServedOf). one.number) order place other 0 below in
+      let same = ap (λ (list : List ℕ). get_or list place 0) ordered.numbered in
+      let number = get_or-range_with_len 1 count place 0 (omega (arith, long, below)) in
+      omega (arith, shown, same, number)
+
+  had_at : (place : ℕ) (other : ServedOf) (slot : ℕ) → place < length order → (get_or order place other).slot ≡ Some slot
+      → HadSlotFrom events slot (place + 1) (get_or order place other).confirmed
+      (unwrap_or (get_or order place other).start 0)
+  unfolding each number_at
+  had_at place other slot below same =
+      let one : ServedOf = get_or order place other in
+      subst (λ (n : ℕ). HadSlotFrom events slot n one.confirmed (unwrap_or one.start 0)) (number_at place other below)
+      (had_from events one.slot one.start one.is_requested one.number one.confirmed (length one.viewer.seen) slot
+      (each place other below) same)
+
+  -- an earlier stream of the slot, and a later one
+  earlier_first : (slot place later confirmed start low high : ℕ) → place < later
+      → HadSlotFrom events slot (place + 1) confirmed low → HadSlotFrom events slot (later + 1) high start
+      → confirmed ≤ start
+  earlier_first slot place later confirmed start low high order one other =
+      let first = one.number_is in let second = other.number_is in
+      let up = finds events one.held other.held one.commits other.commits one.had other.had
+      (one.slot_is ∙ sym other.slot_is) (omega (arith, first, second, order)) turns in
+      let left = one.left in let found = other.found in omega (arith, up, left, found)
+
+  resumed : (slot : ℕ) → IsResumed order slot
+  unfolding had_at earlier_first
+  resumed slot earlier one later same of place other below its =
+      let all = ap length same in let long = length-append earlier (one ∷ later) in
+      let before : get_or order place other ≡ get_or earlier place other =
+      ap (λ (list : List ServedOf). get_or list place other) same
+      ∙ get_or_append_left earlier (one ∷ later) other place below in
+      let here : get_or order (length earlier) other ≡ one =
+      ap (λ (list : List ServedOf). get_or list (length earlier) other) same
+      ∙ get_or-append_seam earlier one later other in
+      let first : HadSlotFrom events slot (place + 1) (get_or earlier place other).confirmed
+      (unwrap_or (get_or earlier place other).start 0) =
+      subst (λ (it : ServedOf). HadSlotFrom events slot (place + 1) it.confirmed (unwrap_or it.start 0)) before
+      (had_at place other slot (omega (arith, all, long, below))
+      (ap (λ (it : ServedOf). it.slot) before ∙ its)) in
+      let second : HadSlotFrom events slot (length earlier + 1) one.confirmed (unwrap_or one.start 0) =
+      subst (λ (it : ServedOf). HadSlotFrom events slot (length earlier + 1) it.confirmed (unwrap_or it.start 0)) here
+      (had_at (length earlier) other slot (omega (arith, all, long))
+      (ap (λ (it : ServedOf). it.slot) here ∙ of)) in
+      earlier_first slot place (length earlier) (get_or earlier place other).confirmed (unwrap_or one.start 0)
+      (unwrap_or (get_or earlier place other).start 0) one.confirmed below first second
+
+  -- No start is before what an earlier connection of its slot reports as confirmed.
+  pub all_resumed : AreResumed slots order
+  unfolding resumed
+  all_resumed slot below = resumed slot
+
+  -- No slot is confirmed before that in the end.
+  pub all_kept : (last : List Slot) → AreConfirmed (confirmed_after events) last → AllEndReached slots last order
+      → AllEndAsConfirmed slots last order
+  unfolding had_at
+  all_kept last known reached slot below = record {
+    reached = reached slot below;
+    resumed = λ place other within its.
+        let one = had_at place other slot within its in
+        let left = one.left in let up = stays_confirmed events one.held one.commits one.had turns in
+        let here = ap (confirmed_after events) one.slot_is in let at = known slot in
+        omega (arith, left, up, here, at);
   }
-
-  module _ (of : one.slot ≡ Some slot) where
-    pub after_this : greatest ≤ unwrap_or one.start 0
-        → AreResumedTo slot (max greatest one.confirmed) (order ++ one ∷ [])
-    unfolding least_more starts_more
-    after_this in_time =
-        let next : ℕ = max greatest one.confirmed in
-        record {
-          passed = All-push (ConfirmsTo slot next) order one
-              (All-weaker (ConfirmsTo slot greatest) (ConfirmsTo slot next)
-              (λ other low its. let upto = low its in omega (arith, upto)) order before.passed)
-              (λ its. omega arith);
-          least = λ position all.
-              let first = least_more position all in
-              let own : ConfirmsTo slot position one =
-              (All-pop (ConfirmsTo slot position) (order ++ one ∷ []) order (Some one) refl all).1 in
-              let upto = own of in omega (arith, first, upto);
-          so_far = starts_more (λ its. All-weaker (ConfirmsTo slot greatest)
-              (ConfirmsTo slot (unwrap_or one.start 0))
-              (λ other low of_it. let upto = low of_it in omega (arith, upto, in_time)) order before.passed);
-        }
-
-    -- it starts before that position
-    pub not_resumed : unwrap_or one.start 0 < greatest → (all later : List ServedOf) → all ≡ order ++ one ∷ later
-        → ¬ IsResumed all slot
-    not_resumed early all later same resumed =
-        let least = before.least (unwrap_or one.start 0) (resumed order one later same of) in
-        absurd (omega (arith, least, early))
-
--- ---- slots
-
-pub one_slot_more : (slots : ℕ) (order : List ServedOf) → AreResumed slots order → IsResumed order slots
-    → AreResumed (slots + 1) order
-one_slot_more slots order before last slot below = by_test (ltb slot slots)
-    (λ less. before slot (ltb-true slot slots less))
-    (λ more. let least = ltb-false slot slots more in
-    let is : slots ≡ slot = omega (arith, least, below) in subst (IsResumed order) is last)
 
 -- ---- the position up to which the slot is confirmed in the end
 
-module _ (order : List ServedOf) (slots : List Slot) (slot reach greatest position : ℕ)
-    (reach_is : IsReach order slot reach) (greatest_is : IsGreatest order slot greatest)
+module _ (order : List ServedOf) (slots : List Slot) (slot reach position : ℕ) (reach_is : IsReach order slot reach)
     (is : position ≡ confirmed_at slots slot) where
-  pub kept : commits_before position ≤ reach → greatest ≤ position → EndsAsConfirmed order slots slot
-  kept far near =
-      let same : commits_before position ≡ commits_before (confirmed_at slots slot) = ap commits_before is in
-      record {
-        reached = λ count below. reach_is.all count (omega (arith, below, far, same));
-        resumed = All-weaker (ConfirmsTo slot greatest) (ConfirmsTo slot (confirmed_at slots slot))
-            (λ other low its. let upto = low its in omega (arith, upto, near, is)) order greatest_is.all;
-      }
+  kept : commits_before position ≤ reach → EndsReached order slots slot
+  kept far count below =
+      let same = ap commits_before is in reach_is.all count (omega (arith, below, far, same))
 
   -- it is after a commit that is not accounted for
-  pub kept_late : reach < commits_before position → ¬ EndsAsConfirmed order slots slot
-  kept_late late so =
-      let same : commits_before position ≡ commits_before (confirmed_at slots slot) = ap commits_before is in
-      reach_is.next (so.reached reach (omega (arith, late, same)))
+  not_kept : reach < commits_before position → ¬ EndsReached order slots slot
+  not_kept late so = let same = ap commits_before is in reach_is.next (so reach (omega (arith, late, same)))
 
-  -- it is before what is reported as confirmed
-  pub kept_early : position < greatest → ¬ EndsAsConfirmed order slots slot
-  kept_early early so =
-      let least = greatest_is.least (confirmed_at slots slot) so.resumed in absurd (omega (arith, least, early, is))
+  pub kept_so : MatchBool (leb (commits_before position) reach) (EndsReached order slots slot)
+      (¬ EndsReached order slots slot)
+  unfolding kept not_kept
+  kept_so = by_test (leb (commits_before position) reach)
+      (λ near. subst (λ (b : Bool). MatchBool b (EndsReached order slots slot) (¬ EndsReached order slots slot)) (sym near)
+      (kept (leb-true (commits_before position) reach near)))
+      (λ late. subst (λ (b : Bool). MatchBool b (EndsReached order slots slot) (¬ EndsReached order slots slot)) (sym late)
+      (not_kept (leb-false (commits_before position) reach late)))
 
-  pub kept_so : commits_before position ≤ reach
-      → MatchBool (leb greatest position) (EndsAsConfirmed order slots slot) (¬ EndsAsConfirmed order slots slot)
-  unfolding kept kept_early
-  kept_so far = by_test (leb greatest position)
-      (λ near. subst (λ (b : Bool). MatchBool b (EndsAsConfirmed order slots slot) (¬ EndsAsConfirmed order slots slot)) (sym near)
-      (kept far (leb-true greatest position near)))
-      (λ early. subst (λ (b : Bool). MatchBool b (EndsAsConfirmed order slots slot) (¬ EndsAsConfirmed order slots slot)) (sym early)
-      (kept_early (leb-false greatest position early)))
-
-pub one_kept_more : (slots : List Slot) (count : ℕ) (order : List ServedOf) → AllEndAsConfirmed count slots order
-    → EndsAsConfirmed order slots count → AllEndAsConfirmed (count + 1) slots order
+pub one_kept_more : (slots : List Slot) (count : ℕ) (order : List ServedOf) → AllEndReached count slots order
+    → EndsReached order slots count → AllEndReached (count + 1) slots order
 one_kept_more slots count order before last slot below = by_test (ltb slot count)
     (λ less. before slot (ltb-true slot count less))
     (λ more. let least = ltb-false slot count more in
-    let is : count ≡ slot = omega (arith, least, below) in subst (EndsAsConfirmed order slots) is last)
+    let is : count ≡ slot = omega (arith, least, below) in subst (EndsReached order slots) is last)
 
 -- ---- answers
 

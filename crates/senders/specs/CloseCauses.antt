@@ -14,11 +14,11 @@ use Rattle.publisher_desk.specs.Seats.{SeatOf}
 use Rattle.publisher_desk.specs.Logged.{RiseTo}
 use Rattle.senders.specs.Gathering.{all_receipts, all_readings, numbers_of, IsRisingSeat}
 use Rattle.senders.specs.Histories.{AreInOrder, IsRight}
-use Rattle.senders.specs.Reached.{AllEndAsConfirmed, AreReached, AreResumed, IsOrder, LacksConnection}
+use Rattle.senders.specs.Reached.{AllEndReached, AreReached, IsOrder, LacksConnection}
 use Rattle.senders.specs.Results.{ServedOf}
 use Rattle.senders.specs.TakenCommits.{IsTaken}
 use Rattle.senders.specs.declared.close_error.CloseError.{CloseError}
-use Rattle.senders.specs.declared.close_error.CloseError.TheVariants.{CountDiffers, ReceiptMissing, ReadingWrong, TakenDiffers, ConnectionMissing, StartLate, StartEarly, SlotDiffers, OutOfMemory}
+use Rattle.senders.specs.declared.close_error.CloseError.TheVariants.{CountDiffers, ReceiptMissing, ReadingWrong, TakenDiffers, ConnectionMissing, StartLate, SlotDiffers, OutOfMemory}
 
 -- ---- a receipt that the log does not have
 
@@ -113,11 +113,9 @@ IsCloseCause book acquired seats served TakenDiffers = HasOtherTaken book seats 
 IsCloseCause book acquired seats served ConnectionMissing = HasMissingConnection book acquired seats served
 IsCloseCause book acquired seats served StartLate =
     HasStarts book acquired seats served (λ slots starts. ¬ AreReached slots starts)
-IsCloseCause book acquired seats served StartEarly =
-    HasStarts book acquired seats served (λ slots starts. AreReached slots starts × ¬ AreResumed slots starts)
 IsCloseCause book acquired seats served SlotDiffers =
-    HasStarts book acquired seats served (λ slots starts. AreReached slots starts × AreResumed slots starts
-    × ¬ AllEndAsConfirmed slots (book_slots book) starts)
+    HasStarts book acquired seats served (λ slots starts. AreReached slots starts
+    × ¬ AllEndReached slots (book_slots book) starts)
 IsCloseCause book acquired seats served OutOfMemory = Unit {0}
 
 -- A receipt is never missing, and no reading is wrong: the publisher's history ties them to its log, and a seat of
@@ -129,6 +127,5 @@ CanCome ReadingWrong = ⊥
 CanCome TakenDiffers = Unit {0}
 CanCome ConnectionMissing = Unit {0}
 CanCome StartLate = Unit {0}
-CanCome StartEarly = Unit {0}
 CanCome SlotDiffers = Unit {0}
 CanCome OutOfMemory = Unit {0}

@@ -7,11 +7,11 @@ use Rattle.publisher_desk.specs.Seats.{SeatOf}
 use Rattle.publisher_desk.specs.SlotEvents.{acquisitions}
 use Rattle.publisher_desk.specs.Viewers.{ClosingOf, IsAcceptedLog, IsSeenIn, log_seen}
 use Rattle.senders.specs.Gathering.{all_receipts}
-use Rattle.senders.specs.Reached.{AllEndAsConfirmed, AreReached, AreResumed, IsOrder, LacksConnection}
+use Rattle.senders.specs.Reached.{AllEndReached, AreReached, IsOrder, LacksConnection}
 use Rattle.senders.specs.Results.{ServedOf}
 use Rattle.senders.specs.TakenCommits.{IsTaken}
 use Rattle.senders.specs.declared.close_error.CloseError.{CloseError}
-use Rattle.senders.specs.declared.close_error.CloseError.TheVariants.{CountDiffers, ReceiptMissing, ReadingWrong, TakenDiffers, ConnectionMissing, StartLate, StartEarly, SlotDiffers, OutOfMemory}
+use Rattle.senders.specs.declared.close_error.CloseError.TheVariants.{CountDiffers, ReceiptMissing, ReadingWrong, TakenDiffers, ConnectionMissing, StartLate, SlotDiffers, OutOfMemory}
 
 -- The seats have a receipt for each commit of the log, and each connection took what the log has from its start on.
 pub record AreTaken (checked : CheckedOf) (closing : ClosingOf) (seats : List SeatOf) (served : List ServedOf) : Type 0
@@ -42,11 +42,9 @@ IsReasonToRefuse checked all left closing seats served ConnectionMissing =
     AreTaken checked closing seats served × LacksConnection (acquisitions closing.events) served
 IsReasonToRefuse checked all left closing seats served StartLate =
     StartsAre checked closing seats served (λ slots starts. ¬ AreReached slots starts)
-IsReasonToRefuse checked all left closing seats served StartEarly =
-    StartsAre checked closing seats served (λ slots starts. AreReached slots starts × ¬ AreResumed slots starts)
 IsReasonToRefuse checked all left closing seats served SlotDiffers =
-    StartsAre checked closing seats served (λ slots starts. AreReached slots starts × AreResumed slots starts
-    × ¬ AllEndAsConfirmed slots closing.slots starts)
+    StartsAre checked closing seats served (λ slots starts. AreReached slots starts
+    × ¬ AllEndReached slots closing.slots starts)
 IsReasonToRefuse checked all left closing seats served OutOfMemory = Unit {0}
 
 -- The publisher's log has this number of commits at most, each of which was accepted after those before it. It has no

@@ -80,10 +80,19 @@ AreResumed slots order = (slot : ℕ) → slot < slots → IsResumed order slot
 
 -- ---- the positions up to which slots are confirmed in the end
 
+-- Each commit before the position up to which this slot is confirmed is accounted for by a connection of the slot.
+abbrev pub EndsReached : List ServedOf → List Slot → ℕ → Type 0
+EndsReached order slots slot =
+    (count : ℕ) → count < commits_before (confirmed_at slots slot) → IsAccounted order slot count
+
+-- so it is of each of so many slots
+abbrev pub AllEndReached : ℕ → List Slot → List ServedOf → Type 0
+AllEndReached count slots order = (slot : ℕ) → slot < count → EndsReached order slots slot
+
 -- It is as if a stream without a request started where this slot is confirmed: each commit before that position is
 -- accounted for by a connection of the slot, and none of the slot reports a later position as confirmed.
 pub record EndsAsConfirmed (order : List ServedOf) (slots : List Slot) (slot : ℕ) : Type 0 where
-  pub reached : (count : ℕ) → count < commits_before (confirmed_at slots slot) → IsAccounted order slot count
+  pub reached : EndsReached order slots slot
   pub resumed : All (λ (other : ServedOf). other.slot ≡ Some slot → other.confirmed ≤ confirmed_at slots slot) order
 
 -- so it is of each of so many slots

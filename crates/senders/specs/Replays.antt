@@ -12,7 +12,7 @@ use Rattle.tables_log.specs.declared.error.CommitError.TheVariants as e
 use Rattle.publisher_desk.specs.Receipts.{ReceiptOf, transactions_of}
 use Rattle.senders.specs.CloseCauses.{IsUnlike}
 use Rattle.senders.specs.declared.close_error.CloseError.{CloseError}
-use Rattle.senders.specs.declared.close_error.CloseError.TheVariants.{CountDiffers, ReceiptMissing, ReadingWrong, TakenDiffers, ConnectionMissing, StartLate, StartEarly, SlotDiffers, OutOfMemory}
+use Rattle.senders.specs.declared.close_error.CloseError.TheVariants.{CountDiffers, ReceiptMissing, ReadingWrong, TakenDiffers, ConnectionMissing, StartLate, SlotDiffers, OutOfMemory}
 
 -- ---- one receipt
 
@@ -37,7 +37,6 @@ IsMissingFor reason ReadingWrong = ⊥
 IsMissingFor reason TakenDiffers = ⊥
 IsMissingFor reason ConnectionMissing = ⊥
 IsMissingFor reason StartLate = ⊥
-IsMissingFor reason StartEarly = ⊥
 IsMissingFor reason SlotDiffers = ⊥
 IsMissingFor reason OutOfMemory = Unit {0}
 

@@ -1,11 +1,11 @@
 -- What the starts of all connections, and the slots in the end, are checked for: PostgreSQL 15, "Logical Replication",
 -- 31.2.1 Replication Slot Management.
-use Rattle.std.specs.Prelude.{◌≡◌, ◌<◌, ◌≤◌, ℕ, List, All, Some}
+use Rattle.std.specs.Prelude.{◌<◌, ℕ, List}
 use Rattle.tables_log.specs.declared.slots.Slot.{Slot}
-use Rattle.senders.specs.Reached.{AllEndAsConfirmed, AreReached, AreResumed, IsAccounted, IsOrder, LacksConnection}
+use Rattle.senders.specs.Reached.{AllEndReached, AreReached, IsAccounted, IsOrder, LacksConnection}
 use Rattle.senders.specs.Results.{ServedOf}
 use Rattle.senders.specs.declared.close_error.CloseError.{CloseError}
-use Rattle.senders.specs.declared.close_error.CloseError.TheVariants.{CountDiffers, ReceiptMissing, ReadingWrong, TakenDiffers, ConnectionMissing, StartLate, StartEarly, SlotDiffers, OutOfMemory}
+use Rattle.senders.specs.declared.close_error.CloseError.TheVariants.{CountDiffers, ReceiptMissing, ReadingWrong, TakenDiffers, ConnectionMissing, StartLate, SlotDiffers, OutOfMemory}
 
 -- ---- one slot
 
@@ -14,22 +14,15 @@ pub record IsReach (order : List ServedOf) (slot reach : ℕ) : Type 0 where
   pub all : (count : ℕ) → count < reach → IsAccounted order slot count
   pub next : ¬ IsAccounted order slot reach
 
--- This is the greatest position that a connection of the slot reports as confirmed; 0 if there is none.
-pub record IsGreatest (order : List ServedOf) (slot greatest : ℕ) : Type 0 where
-  pub all : All (λ (other : ServedOf). other.slot ≡ Some slot → other.confirmed ≤ greatest) order
-  pub least : (position : ℕ) → All (λ (other : ServedOf). other.slot ≡ Some slot → other.confirmed ≤ position) order
-      → greatest ≤ position
-
 -- ---- all slots
 
--- In the order of the connections each slot is reached, no connection starts before what earlier ones of its slot
--- report as confirmed, and each slot is confirmed in the end as far as they account for.
+-- In the order of the connections each slot is reached, and each is confirmed in the end no further than they account
+-- for.
 pub record AreInTime (count : ℕ) (slots : List Slot) (acquired : ℕ) (served : List ServedOf) : Type 0 where
   pub starts : List ServedOf
   pub ordered : IsOrder acquired served starts
   pub reached : AreReached count starts
-  pub resumed : AreResumed count starts
-  pub kept : AllEndAsConfirmed count slots starts
+  pub kept : AllEndReached count slots starts
 
 -- `so` holds of the connections in their order, for this number of slots.
 pub record AreOrdered (count acquired : ℕ) (served : List ServedOf) (so : ℕ → List ServedOf → Type 0) : Type 0 where
@@ -46,8 +39,6 @@ IsStartCause count slots acquired served TakenDiffers = ⊥
 IsStartCause count slots acquired served ConnectionMissing = LacksConnection acquired served
 IsStartCause count slots acquired served StartLate =
     AreOrdered count acquired served (λ n starts. ¬ AreReached n starts)
-IsStartCause count slots acquired served StartEarly =
-    AreOrdered count acquired served (λ n starts. AreReached n starts × ¬ AreResumed n starts)
 IsStartCause count slots acquired served SlotDiffers =
-    AreOrdered count acquired served (λ n starts. AreReached n starts × AreResumed n starts × ¬ AllEndAsConfirmed n slots starts)
+    AreOrdered count acquired served (λ n starts. AreReached n starts × ¬ AllEndReached n slots starts)
 IsStartCause count slots acquired served OutOfMemory = Unit {0}

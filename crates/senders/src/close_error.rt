@@ -27,14 +27,9 @@ pub enum CloseError {
     /// although neither its own client nor an earlier one of the slot requested a later position.
     #[error("a stream started after a commit that no client of its slot confirmed")]
     StartLate,
-    /// A stream started before a position that an earlier connection of its slot reports as confirmed, so that commits
-    /// that were confirmed may be sent again.
-    #[error("a stream started before a position that a client of its slot had confirmed")]
-    StartEarly,
     /// In the end a slot is confirmed past a commit that was taken for no connection of the slot whose client confirmed
-    /// it, although no client of the slot requested a later position; or only up to a position before one that a client
-    /// of the slot had confirmed.
-    #[error("a slot is not confirmed up to where its clients confirmed the log")]
+    /// it, although no client of the slot requested a later position.
+    #[error("a slot is confirmed past a commit that no client of the slot confirmed")]
     SlotDiffers,
     /// An allocation was refused.
     #[error("out of memory")]

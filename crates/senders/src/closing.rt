@@ -152,24 +152,25 @@ fn count_all<P: Publishing>(
 /// finished. Each stream that acquired a slot has to be that of a connection that is passed in. In the order of these
 /// acquisitions, each commit before the start of a connection has to be one that was taken for an earlier connection of
 /// its slot, whose client confirmed it, or to be before a position that its client, or that of an earlier one of the
-/// slot, requested. Its start must not be before a position that an earlier connection of its slot reports as
-/// confirmed. The same has to hold of the position up to which each slot of the publisher is confirmed, as if a stream
-/// that no client requested started there after all others. The book that is returned is the one on which the receipts
-/// were made again. Its slots are free, and confirmed as far as the publisher's.
+/// slot, requested. The same has to hold of each commit before the position up to which each slot of the publisher is
+/// confirmed, as if a stream that no client requested started there after all others. That no stream starts before a
+/// position that an earlier connection of its slot reports as confirmed, and that no slot is confirmed before such a
+/// position in the end, need no comparison, by the order of the events of the slots. The book that is returned is the
+/// one on which the receipts were made again. Its slots are free, and confirmed as far as the publisher's.
 ///
 /// `closing` and `rest` stay as they are. So a seat or a connection that is not passed in can be compared with them
 /// afterwards, by `Closing::count` or `Served::check`.
 ///
 /// It takes the time to commit all commands again, as in `Book::commit`; to sort the receipts, the readings and the
-/// connections; to look up the row of each reading; and to pass over the connections four times for each slot.
+/// connections; to look up the row of each reading; and to pass over the connections twice for each slot.
 ///
 /// # Errors
 ///
-/// The first of `CountDiffers`, `ReceiptMissing`, `ReadingWrong`, `TakenDiffers`, `ConnectionMissing`, `StartLate`,
-/// `StartEarly` and `SlotDiffers`, or `OutOfMemory` instead of any of them if an allocation was refused. `CountDiffers`
-/// is returned only if a seat is held back. `ReceiptMissing` and `ReadingWrong` are never returned, since the
-/// publisher's history says that the notes of its seats are right. If there is an error, the seats and the connections
-/// that were passed in are dropped.
+/// The first of `CountDiffers`, `ReceiptMissing`, `ReadingWrong`, `TakenDiffers`, `ConnectionMissing`, `StartLate` and
+/// `SlotDiffers`, or `OutOfMemory` instead of any of them if an allocation was refused. `CountDiffers` is returned only
+/// if a seat is held back. `ReceiptMissing` and `ReadingWrong` are never returned, since the publisher's history says
+/// that the notes of its seats are right. If there is an error, the seats and the connections that were passed in are
+/// dropped.
 ///
 /// PostgreSQL 15, 3.4. Transactions, and 55.4. Streaming Replication Protocol.
 pub fn close<P: Publishing>(

@@ -1,14 +1,13 @@
-//! Whether no stream started after commits that no client of its slot confirmed, or before a position that one
-//! confirmed, and whether no slot is confirmed up to such a position in the end.
+//! Whether no stream started after commits that no client of its slot confirmed, and whether no slot is confirmed past
+//! such commits in the end.
 
 ghost use Rattle.std.specs.Prelude.{◌≡◌, ◌≢◌, ◌<◌, ◌≤◌, IfErr, IfNone, IfOk, IfSome, MatchBool, OnOk, OnSome, Some, false, map, true};
-ghost use Rattle.std.specs.Option.{unwrap_or};
 ghost use Rattle.std.specs.List.{range_with_len};
 ghost use Rattle.std.specs.List.Sorted.{IsNonDecreasingBy, IsPermutation};
 ghost use Rattle.tables_log.specs.BookView.{book_slots};
-ghost use Rattle.senders.specs.Reached.{AllEndAsConfirmed, AreReached, AreResumed, EndsAsConfirmed, IsReached, IsResumed, numbers_in, started_in};
+ghost use Rattle.senders.specs.Reached.{AllEndReached, AreReached, EndsReached, IsReached, numbers_in, started_in};
 ghost use Rattle.senders.specs.Results.{taken_from};
-ghost use Rattle.senders.specs.Starts.{AreInTime, IsGreatest, IsReach, IsStartCause};
+ghost use Rattle.senders.specs.Starts.{AreInTime, IsReach, IsStartCause};
 
 use crate::close_error::CloseError;
 use crate::served::Served;
@@ -116,78 +115,24 @@ fn are_reached<P: Publishing>(starts: &[&Served<P>], slots: usize) -> bool
     true
 }
 
-/// Whether the connection started before this position.
-fn is_early<P: Publishing>(one: &Served<P>, position: u64) -> bool
-    ensures { MatchBool result (unwrap_or one.now.start 0 < position) (position ≤ unwrap_or one.now.start 0) }
-{
-    one.start().unwrap_or(0) < position
-}
-
-/// The greatest position that a client of the slot confirmed, 0 if none did; `None` if a connection of the slot started
-/// before a position that the client of an earlier one of the slot confirmed.
-fn greatest_in<P: Publishing>(starts: &[&Served<P>], slot: SlotNumber) -> Option<u64>
-    ensures resumed { OnSome result (IsResumed (map (λ one. one.now) starts.now) slot) }
-    ensures greatest { IfSome result (IsGreatest (map (λ one. one.now) starts.now) slot) }
-    ensures early { IfNone result (¬ IsResumed (map (λ one. one.now) starts.now) slot) }
-{
-    let mut greatest = 0;
-    for one in starts {
-        if is_of(one, slot) {
-            if is_early(one, greatest) {
-                return None;
-            }
-            greatest = greatest.max(one.confirmed());
-        }
-    }
-    Some(greatest)
-}
-
-/// Whether no connection of the slot started before a position that the client of an earlier one of the slot confirmed.
-fn is_resumed<P: Publishing>(starts: &[&Served<P>], slot: SlotNumber) -> bool
-    ensures { MatchBool result (IsResumed (map (λ one. one.now) starts.now) slot)
-        (¬ IsResumed (map (λ one. one.now) starts.now) slot) }
-{
-    greatest_in(starts, slot).is_some()
-}
-
-/// Whether this is so of each of this number of slots.
-fn are_resumed<P: Publishing>(starts: &[&Served<P>], slots: usize) -> bool
-    ensures { MatchBool result (AreResumed slots (map (λ one. one.now) starts.now))
-        (¬ AreResumed slots (map (λ one. one.now) starts.now)) }
-{
-    for slot in 0..slots {
-        if !is_resumed(starts, slot) {
-            return false;
-        }
-    }
-    true
-}
-
 /// Whether each commit before the position up to which the book's slot is confirmed was taken for a connection of the
-/// slot whose client confirmed it, or is before a position that a client of the slot requested; and whether no client
-/// of the slot confirmed a later position.
+/// slot whose client confirmed it, or is before a position that a client of the slot requested.
 fn is_kept<P: Publishing>(starts: &[&Served<P>], book: &Book, slot: SlotNumber) -> bool
     requires reached { IsReached (map (λ one. one.now) starts.now) slot }
-    requires resumed { IsResumed (map (λ one. one.now) starts.now) slot }
-    ensures { MatchBool result (EndsAsConfirmed (map (λ one. one.now) starts.now) (book_slots book.now) slot)
-        (¬ EndsAsConfirmed (map (λ one. one.now) starts.now) (book_slots book.now) slot) }
+    ensures { MatchBool result (EndsReached (map (λ one. one.now) starts.now) (book_slots book.now) slot)
+        (¬ EndsReached (map (λ one. one.now) starts.now) (book_slots book.now) slot) }
 {
     let Some(reach) = reach_in(starts, slot) else {
         return false;
     };
-    let Some(greatest) = greatest_in(starts, slot) else {
-        return false;
-    };
-    let position = book.confirmed(slot);
-    Lsn::new(position).commits_before() <= reach && greatest <= position
+    Lsn::new(book.confirmed(slot)).commits_before() <= reach
 }
 
 /// Whether this is so of each of this number of slots.
 fn are_kept<P: Publishing>(starts: &[&Served<P>], book: &Book, slots: usize) -> bool
     requires reached { AreReached slots (map (λ one. one.now) starts.now) }
-    requires resumed { AreResumed slots (map (λ one. one.now) starts.now) }
-    ensures { MatchBool result (AllEndAsConfirmed slots (book_slots book.now) (map (λ one. one.now) starts.now))
-        (¬ AllEndAsConfirmed slots (book_slots book.now) (map (λ one. one.now) starts.now)) }
+    ensures { MatchBool result (AllEndReached slots (book_slots book.now) (map (λ one. one.now) starts.now))
+        (¬ AllEndReached slots (book_slots book.now) (map (λ one. one.now) starts.now)) }
 {
     for slot in 0..slots {
         if !is_kept(starts, book, slot) {
@@ -200,17 +145,15 @@ fn are_kept<P: Publishing>(starts: &[&Served<P>], book: &Book, slots: usize) -> 
 /// Checks that, of this number of acquisitions of slots, each is that of a connection. Then, for each of this number of
 /// slots, in the order of their numbers: each commit before the start of a connection of the slot was taken for an
 /// earlier one of the slot, whose client confirmed it, or is before a position that its client, or that of an earlier
-/// one of the slot, requested. Then, for each of these slots, in the same order: no connection of the slot started
-/// before a position that the client of an earlier one of the slot confirmed. Then, for each of these slots: each
-/// commit before the position up to which the book's slot is confirmed was taken for a connection of the slot, whose
-/// client confirmed it, or is before a position that a client of the slot requested; and no client of the slot
-/// confirmed a later position.
+/// one of the slot, requested. Then, for each of these slots: each commit before the position up to which the book's
+/// slot is confirmed was taken for a connection of the slot, whose client confirmed it, or is before a position that a
+/// client of the slot requested.
 ///
-/// It takes the time to sort the connections once, and to pass over them four times for each slot.
+/// It takes the time to sort the connections once, and to pass over them twice for each slot.
 ///
 /// # Errors
 ///
-/// The first of `ConnectionMissing`, `StartLate`, `StartEarly` and `SlotDiffers`, or out of memory.
+/// The first of `ConnectionMissing`, `StartLate` and `SlotDiffers`, or out of memory.
 pub(crate) fn check_starts<P: Publishing>(
     alloc: Global,
     book: &Book,
@@ -229,9 +172,6 @@ pub(crate) fn check_starts<P: Publishing>(
     }
     if !are_reached(order, slots) {
         return Err(CloseError::StartLate);
-    }
-    if !are_resumed(order, slots) {
-        return Err(CloseError::StartEarly);
     }
     if !are_kept(order, book, slots) {
         return Err(CloseError::SlotDiffers);

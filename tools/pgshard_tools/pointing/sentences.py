@@ -36,8 +36,7 @@ CLOSINGS = {
     "TakenDiffers": "a finished connection stops before the end of the log",
     "ConnectionMissing": "the result of a connection is missing",
     "StartLate": "a stream started after a commit that no client of its slot confirmed",
-    "StartEarly": "a stream started before a position that a client of its slot had confirmed",
-    "SlotDiffers": "a slot is not confirmed up to where its clients confirmed the log",
+    "SlotDiffers": "a slot is confirmed past a commit that no client of the slot confirmed",
 }
 
 PARTS = {

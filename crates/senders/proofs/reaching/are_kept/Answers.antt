@@ -4,9 +4,6 @@ use Rattle.senders.specs.Results.{ServedOf}
 use Rattle.senders.proofs.ResumeLemmas.{one_kept_more}
 use Rattle.senders.proofs.reaching.are_kept.Goals as goal
 
-pub is_kept-requires-clause-resumed : goal.is_kept-requires-clause-resumed
-is_kept-requires-clause-resumed g c = c.requires.resumed c.loop-slot.slot c.loop-slot-test.true
-
 pub loop-slot-preserved : goal.loop-slot-preserved
 loop-slot-preserved g c =
     one_kept_more (book_slots c.args.book.now) c.loop-slot.slot
