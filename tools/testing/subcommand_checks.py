@@ -10,7 +10,7 @@ from tally import Tally
 CRATES = pathlib.Path(__file__).resolve().parent.parent.parent / "crates"
 
 # The file that declares the subcommands, and the form of a declaration.
-SOURCE = "cli/src/tree.rt"
+SOURCE = "command_tree/src/tree.rt"
 DECLARED = re.compile(r'Command::new\(\s*alloc,\s*"(\w+)"')
 
 # Subcommands that listen have runs of their own, in the files serves.py and publishes.py of each folder.

@@ -4,7 +4,8 @@ use Rattle.std.specs.Prelude.{Result, Ok, Err, IfOk, IfErr}
 use Rattle.clap.specs.Words.{IsAmong, Text, fault_of}
 use Rattle.clap.specs.declared.error.kind.ErrorKind.{ErrorKind}
 use Rattle.clap.specs.declared.error.kind.ErrorKind.TheVariants as kind
-use Rattle.cli.specs.CommandLine.{AsksHelp, IsAsking, IsFaulty, IsHelp, IsHelpKind, IsOfError, IsOfWords, pgshard}
+use Rattle.cli.specs.CommandLine.{AsksHelp, IsAsking, IsFaulty, IsHelp, IsHelpKind, IsOfError, IsOfWords}
+use Rattle.command_tree.specs.Tree.{pgshard}
 use Rattle.cli.specs.declared.arguments.Invocation.{Invocation}
 use Rattle.cli.specs.declared.arguments.Invocation.TheVariants.{Help, Answer}
 use Rattle.commands.specs.declared.failure.Failure.{Failure}

@@ -5,9 +5,9 @@ ghost use Rattle.clap.specs.Words.{kind_of};
 ghost use Rattle.cli.specs.CommandLine.{IsAsking, IsHelp, IsHelpKind, IsOfError, IsOfWords};
 
 use crate::requests::{Request, request_of};
-use crate::tree::command;
 use crate::values::wrong_value;
 use clap::error::ErrorKind;
+use command_tree::command;
 use commands::Failure;
 use std::alloc::{AllocError, Global};
 use std::convert::AsStr;

@@ -14,7 +14,6 @@ mod requests;
 mod running;
 mod script;
 mod serve;
-mod tree;
 mod unserved;
 mod values;
 

@@ -1,7 +1,8 @@
 use Rattle.std.proofs.Common.{◌≡◌, ℕ, List, [], ap, inr, map, refl, subst, sym}
 use Rattle.std.specs.Prelude.{Option}
 use Rattle.clap.specs.Words.{App, HasKind, HasMatchesOf, Row, fault_of, is_simple_and_free, kind_of, subcommand_of, subcommand_rows_of}
-use Rattle.cli.specs.CommandLine.{IsSubcommand, pgshard}
+use Rattle.command_tree.specs.Tree.{pgshard}
+use Rattle.cli.specs.CommandLine.{IsSubcommand}
 use Rattle.cli.specs.declared.requests.Request.{Request}
 use Rattle.cli.proofs.Invocations.{error_asks, error_stops}
 use Rattle.cli.proofs.arguments.parse.Goals as goal

@@ -2,8 +2,8 @@ use Rattle.std.proofs.Common.{rules, ◌≡◌, ◌∙◌, ap, ap₂, codes}
 use Rattle.std.proofs.lemmas.Result.{IfOk-weaker}
 use Rattle.clap.specs.Words.{app_of, new_app, rule_of, with_rule}
 use Rattle.clap.specs.Simple.{app_of_fields}
-use Rattle.cli.specs.CommandLine.{table_rule, insert_rule}
-use Rattle.cli.proofs.tree.eval_command.Goals as goal
+use Rattle.command_tree.specs.Tree.{table_rule, insert_rule}
+use Rattle.command_tree.proofs.tree.eval_command.Goals as goal
 
 pub returns-clause-shape : goal.returns-clause-shape
 returns-clause-shape c =

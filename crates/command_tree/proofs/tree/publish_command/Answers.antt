@@ -7,8 +7,8 @@ use Rattle.clap.specs.Built.{AddsArg}
 use Rattle.clap.specs.declared.builder.arg.Arg.{Arg}
 use Rattle.clap.specs.declared.builder.command.Command.{Command}
 use Rattle.clap.specs.declared.builder.command.Command.TheViews.{out-Command}
-use Rattle.cli.specs.CommandLine.{commands_rule, keepalive_rule, limit_rule, port_file_rule, port_rule, start_timeout_rule, timeout_rule, write_timeout_rule}
-use Rattle.cli.proofs.tree.publish_command.Goals as goal
+use Rattle.command_tree.specs.Tree.{commands_rule, keepalive_rule, limit_rule, port_file_rule, port_rule, start_timeout_rule, timeout_rule, write_timeout_rule}
+use Rattle.command_tree.proofs.tree.publish_command.Goals as goal
 
 pub returns-clause-shape : goal.returns-clause-shape
 returns-clause-shape c =

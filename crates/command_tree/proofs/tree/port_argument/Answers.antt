@@ -3,7 +3,7 @@ use Rattle.std.specs.Prelude.{Some}
 use Rattle.clap.specs.Walk.{Rule}
 use Rattle.clap.specs.Words.{new_rule, rule_of}
 use Rattle.clap.specs.declared.builder.action.ArgAction.TheVariants.{Set}
-use Rattle.cli.proofs.tree.port_argument.Goals as goal
+use Rattle.command_tree.proofs.tree.port_argument.Goals as goal
 
 pub returns-clause-rule : goal.returns-clause-rule
 returns-clause-rule c =

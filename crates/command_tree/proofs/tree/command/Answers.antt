@@ -5,8 +5,8 @@ use Rattle.clap.specs.Simple.{app_of_fields, on_top}
 use Rattle.clap.specs.declared.builder.command.Command.{Command}
 use Rattle.clap.specs.declared.builder.command.Command.TheOpen.{Command-F}
 use Rattle.clap.specs.declared.builder.command.Command.TheViews.{out-Command}
-use Rattle.cli.specs.CommandLine.{eval_command, show_command, check_command, make_command, simulate_command, serve_command, bare}
-use Rattle.cli.proofs.tree.command.Goals as goal
+use Rattle.command_tree.specs.Tree.{eval_command, show_command, check_command, make_command, simulate_command, serve_command, bare}
+use Rattle.command_tree.proofs.tree.command.Goals as goal
 
 pub returns : goal.returns
 returns c =

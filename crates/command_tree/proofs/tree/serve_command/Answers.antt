@@ -2,9 +2,9 @@ use Rattle.std.proofs.Common.{◌≡◌, ◌∙◌, ap, ap₂, codes}
 use Rattle.std.proofs.lemmas.Result.{IfOk-weaker}
 use Rattle.clap.specs.Words.{app_of, new_app, with_rule}
 use Rattle.clap.specs.Simple.{app_of_fields}
-use Rattle.cli.specs.CommandLine.{limit_rule}
-use Rattle.cli.specs.CommandLine.{port_rule}
-use Rattle.cli.proofs.tree.serve_command.Goals as goal
+use Rattle.command_tree.specs.Tree.{limit_rule}
+use Rattle.command_tree.specs.Tree.{port_rule}
+use Rattle.command_tree.proofs.tree.serve_command.Goals as goal
 
 pub returns-clause-shape : goal.returns-clause-shape
 returns-clause-shape c =

@@ -3,7 +3,7 @@
 ghost use Rattle.std.specs.Prelude.{◌≡◌, false, IfOk};
 ghost use Rattle.clap.specs.Words.{app_of, rule_of};
 ghost use Rattle.clap.specs.declared.builder.command.Command.TheViews.{out-Command};
-ghost use Rattle.cli.specs.CommandLine as spec;
+ghost use Rattle.command_tree.specs.Tree as spec;
 
 use clap::{Arg, ArgAction, Command};
 use std::alloc::{AllocError, Global};
