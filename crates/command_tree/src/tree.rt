@@ -253,28 +253,28 @@ fn publish_command<'a>(alloc: Global) -> Result<Command<'a>, AllocError>
         alloc,
         "the port of 127.0.0.1 to listen on: 1 to 65535, or 0 for any free one",
     );
-    let port_file = port_file_argument(alloc);
-    let commands = commands_argument(alloc);
-    let limit = limit_argument(alloc);
-    let start_timeout = start_timeout_argument(alloc);
-    let write_timeout = write_timeout_argument(alloc);
-    let keepalive = keepalive_argument(alloc);
-    let timeout = timeout_argument(alloc);
-    let log = log_argument(alloc);
-    Command::new(alloc, "publish")
+    let with_port = Command::new(alloc, "publish")
         .about(
             "serves subscribers over sockets, while it reads commands and commits them one after another",
         )
         .after_help(PUBLISH_HELP)
-        .arg(port)?
-        .arg(port_file)?
-        .arg(commands)?
-        .arg(limit)?
-        .arg(start_timeout)?
-        .arg(write_timeout)?
-        .arg(keepalive)?
-        .arg(timeout)?
-        .arg(log)
+        .arg(port)?;
+    let port_file = port_file_argument(alloc);
+    let with_port_file = with_port.arg(port_file)?;
+    let commands = commands_argument(alloc);
+    let with_commands = with_port_file.arg(commands)?;
+    let limit = limit_argument(alloc);
+    let with_limit = with_commands.arg(limit)?;
+    let start_timeout = start_timeout_argument(alloc);
+    let with_start_timeout = with_limit.arg(start_timeout)?;
+    let write_timeout = write_timeout_argument(alloc);
+    let with_write_timeout = with_start_timeout.arg(write_timeout)?;
+    let keepalive = keepalive_argument(alloc);
+    let with_keepalive = with_write_timeout.arg(keepalive)?;
+    let timeout = timeout_argument(alloc);
+    let with_timeout = with_keepalive.arg(timeout)?;
+    let log = log_argument(alloc);
+    with_timeout.arg(log)
 }
 
 /// The program and its subcommands.
