@@ -1,8 +1,7 @@
 -- What a listener has heard, piece by piece.
-use Rattle.std.proofs.Common.{◌≡◌, ◌<◌, ◌≤◌, ℕ, min, List, [], ◌++◌, length, refl, sym, ◌∙◌, ap, subst, append_assoc, append-nil, arith}
-use Rattle.std.specs.Prelude.{Bool, true, Option, Some, None, Result, Ok, Err, IfErr, slice_get}
+use Rattle.std.proofs.Common.{◌≡◌, ◌<◌, ◌≤◌, ℕ, min, List, [], ◌++◌, length, refl, sym, ◌∙◌, ap, subst, append-nil, arith}
+use Rattle.std.specs.Prelude.{Option, Some, None, Result, Ok, Err, IfErr, slice_get}
 use Rattle.std.proofs.Math.Nat.{le-max_left}
-use Rattle.std.proofs.KnownBytes.{Consumes-nil, Consumes-trans}
 use Rattle.std.proofs.lemmas.Option.{slice_get_within}
 use Rattle.shard_checker.specs.CheckedView.{CheckedOf, setting_in}
 use Rattle.table_changes.specs.Tables.{no_rows}
@@ -15,7 +14,7 @@ use Rattle.tables_log.specs.declared.slots.Slot.{Slot}
 use Rattle.tables_log.proofs.StandLemmas.{each_is_logged}
 use Rattle.copy_frames.specs.Frames.{cut, frames_of, rest_of}
 use Rattle.copy_both.specs.Ears.{ear_confirmed, ear_refusal, ear_started}
-use Rattle.copy_both.specs.HeardFrames.{AsksFor, AsksIfStarted, BooksOf, GoesOnOrEnds, HasLinkFault, HasHeard, Explains, IsAnswered, IsBookFor, frames_in, reach_of, sent_then, IsStartedBy}
+use Rattle.copy_both.specs.HeardFrames.{AsksFor, BooksOf, HasLinkFault, HasHeard, Explains, IsAnswered, IsBookFor, frames_in, reach_of, sent_then, IsStartedBy}
 use Rattle.copy_both.specs.declared.ear.Ear.{Ear}
 use Rattle.copy_both.specs.declared.heard.Heard.{Heard}
 use Rattle.copy_both.specs.declared.link_fault.LinkFault.{LinkFault}
@@ -27,25 +26,18 @@ use Rattle.copy_both.specs.Hearing.{ServedFrom, first_sent}
 use Rattle.copy_both.proofs.StartBounds.{faultless_start, is_begun}
 use Rattle.publisher_desk.specs.Receipts.{transactions_of}
 use Rattle.publisher_desk.specs.SlotEvents.{confirmed_after, use_after}
-use Rattle.publisher_desk.specs.Viewers.{HoldsIf, IsUsed, SeesMore, ViewerOf}
+use Rattle.publisher_desk.specs.Viewers.{IsUsed, SeesMore, ViewerOf}
 use Rattle.publisher_desk.specs.declared.connection_state.ConnectionState.{ConnectionState}
 use Rattle.publisher_desk.specs.declared.slot_event.Acquisition.{Acquisition}
 use Rattle.senders.specs.Hearing.{HearsPiece, IsExplained, IsSentFrom, StaysStarted, sent_after, sent_by}
-use Rattle.senders.specs.Confirming.{ConfirmsBy, ReportsIf}
-use Rattle.senders.specs.Listening.{AcquiresFor, EndsFor, EndsOf, HasItsSlot, HasListened, HeardPiece, HoldsStream, HearsLast, HearsMore, HearsNext, SaysOfPiece, SaysRequested, next_by, next_by_end, piece_of, slot_of}
-use Rattle.senders.specs.Refusing.{fault_by}
+use Rattle.senders.specs.Confirming.{ConfirmsBy}
+use Rattle.senders.specs.Listening.{AcquiresFor, HasListened, HeardPiece, SaysOfPiece, SaysRequested, piece_of}
 use Rattle.senders.specs.Results.{StartsFrom, books_seen}
-use Rattle.senders.specs.declared.failed.Failed.{Failed}
 use Rattle.senders.specs.declared.listener.Listened.{Listened}
-use Rattle.senders.proofs.SeenLogs.{AreMore, books_more, heard_still, sees_on, sees_same}
-use Rattle.senders.specs.Pieces.{Pulls, PullsNothing, PullsPiece}
-use Rattle.senders.specs.declared.listener_end.ListenerEnd.{ListenerEnd}
-use Rattle.senders.specs.declared.listener_end.ListenerEnd.TheVariants as listener_end
+use Rattle.senders.proofs.SeenLogs.{AreMore, books_more, heard_still, sees_same}
 use Rattle.senders.specs.declared.listener.Listener.{Listener}
-use Rattle.senders.specs.declared.next.Next.{Next}
-use Rattle.senders.specs.declared.next.Next.TheVariants as next
 use Rattle.copy_both.proofs.RaisedSlots.{Raises, hearing_raises}
-use Rattle.senders.proofs.ConfirmingLemmas.{confirms_all, confirms_lower, confirms_nothing, reports_all, reports_fault, reports_frame}
+use Rattle.senders.proofs.ConfirmingLemmas.{confirms_lower, confirms_nothing}
 use Rattle.senders.proofs.HoldingLemmas.{holding_after, mine_after, use_among}
 
 -- ---- a piece, under the lock

@@ -1,5 +1,5 @@
 -- Streams that have a slot one after another, by the order of events: what one left confirmed the next one finds.
-use Rattle.std.proofs.Common.{◌≡◌, ◌≢◌, ℕ, ◌+◌, ◌<◌, ◌≤◌, List, [], ◌∷◌, ◌++◌, Bool, true, false, refl, sym, ap, subst, ◌∙◌, arith, cond, eq-eqb, ne_eqb, append_assoc}
+use Rattle.std.proofs.Common.{◌≡◌, ℕ, ◌<◌, ◌≤◌, List, [], ◌∷◌, ◌++◌, Bool, true, false, refl, sym, ap, subst, ◌∙◌, arith, cond, eq-eqb, ne_eqb, append_assoc}
 use mathlib.Core.Logic.{dite}
 use native.Mathlib.Decide.{ℕ_discrete}
 use Rattle.publisher_desk.specs.SlotEvents.{AreInTurn, IsInTurn, KeepSlot, acquisitions, confirmed_after, no_position, no_use, position_by, positions_from, use_after, use_by, use_from}

@@ -1,13 +1,12 @@
 -- That no stream starts before a position that an earlier one of its slot reports as confirmed, and that no slot is
 -- confirmed before such a position in the end: by the order of events.
-use Rattle.std.proofs.Common.{◌≡◌, ℕ, ◌+◌, ◌<◌, ◌≤◌, max, List, [], ◌∷◌, ◌++◌, length, map, get_or, Bool, true, false, refl, sym, ap, subst, ◌∙◌, arith, leb, ltb, length-append}
+use Rattle.std.proofs.Common.{◌≡◌, ℕ, ◌+◌, ◌<◌, ◌≤◌, max, List, [], ◌∷◌, length, get_or, Bool, true, false, refl, sym, ap, subst, ◌∙◌, arith, leb, ltb, length-append}
 use Rattle.std.proofs.lemmas.Bool.{leb-true, leb-false, ltb-true, ltb-false}
 use Rattle.std.proofs.lemmas.List.{get_or-map, get_or_append_left}
 use Rattle.std.proofs.lemmas.List.Elements.{All-cons, All-head, All-nil, All-tail}
 use Rattle.std.proofs.lemmas.List.FromFn.{get_or-range_with_len}
 use Rattle.std.proofs.lemmas.List.Sorted.{All-permutation}
 use Rattle.std.proofs.Math.Seq.{get_or-append_seam}
-use Rattle.std.specs.List.{range_with_len}
 use Rattle.std.specs.Prelude.{All, IfNone, MatchBool, None, OnSome, Option, Some, is_some, unwrap_or}
 use Rattle.filter_tree.proofs.Tests.{by_test}
 use Rattle.tables_log.specs.Lsn.{commits_before}
@@ -19,7 +18,7 @@ use Rattle.publisher_desk.specs.Viewers.{HadSlot}
 use Rattle.publisher_desk.specs.declared.slot_event.SlotEvent.{SlotEvent}
 use Rattle.publisher_desk.specs.declared.slot_sight.Hold.{Hold}
 use Rattle.senders.specs.Closing.{HadStreamIn}
-use Rattle.senders.specs.Reached.{AllEndAsConfirmed, AllEndReached, AreResumed, EndsReached, IsOrder, IsResumed, if_started, numbers_in, started_in}
+use Rattle.senders.specs.Reached.{AllEndAsConfirmed, AllEndReached, AreResumed, EndsReached, IsOrder, IsResumed, if_started, started_in}
 use Rattle.senders.specs.Results.{HadStream, ServedOf, StartsFrom, acquisition}
 use Rattle.senders.specs.Starts.{IsReach}
 use Rattle.senders.proofs.OrderLemmas.{finds, stays_confirmed}

@@ -14,7 +14,6 @@ use Rattle.copy_both.specs.VoiceLaws.{Follow}
 use Rattle.copy_both.specs.declared.link_fault.LinkFault.{LinkFault}
 use Rattle.copy_both.specs.declared.link_fault.LinkFault.TheVariants as fault
 use Rattle.tables_log.specs.Lsn.{commits_before}
-use Rattle.publisher_desk.specs.SlotSights.{hold}
 use Rattle.publisher_desk.specs.Viewers.{SeesMore, ViewerOf, new_viewer}
 use Rattle.senders.specs.declared.end.End.{End}
 use Rattle.senders.specs.declared.end.End.TheVariants as end
@@ -25,7 +24,7 @@ use Rattle.senders.specs.Listening.{EndsAt, EndsFor, EndsOf, HasListened, HearsA
 use Rattle.senders.specs.Refusing.{cause_by, fault_by, fault_after}
 use Rattle.senders.specs.Running.{Heard, IsEndOf, Memory, Streams, Whole, Writing}
 use Rattle.senders.specs.Serving.{IsEndCause, IsEnded, IsAfterStream, HasClientLeft, IsServed, IsServedFor, IsStream, IsTail, IsWritten, started_of}
-use Rattle.senders.specs.Results.{ServedOf, acquisition, books_seen, commits_of, served_of}
+use Rattle.senders.specs.Results.{ServedOf, books_seen, commits_of, served_of}
 use Rattle.senders.specs.Sending.{TakesLogged}
 use Rattle.senders.specs.Serving as serving
 use Rattle.senders.specs.Speaking.{IsSaid}

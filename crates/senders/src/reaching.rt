@@ -1,7 +1,7 @@
 //! Whether no stream started after commits that no client of its slot confirmed, and whether no slot is confirmed past
 //! such commits in the end.
 
-ghost use Rattle.std.specs.Prelude.{◌≡◌, ◌≢◌, ◌<◌, ◌≤◌, IfErr, IfNone, IfOk, IfSome, MatchBool, OnOk, OnSome, Some, false, map, true};
+ghost use Rattle.std.specs.Prelude.{◌≡◌, ◌≢◌, ◌<◌, IfErr, IfNone, IfOk, IfSome, MatchBool, OnOk, OnSome, Some, false, map, true};
 ghost use Rattle.std.specs.List.{range_with_len};
 ghost use Rattle.std.specs.List.Sorted.{IsNonDecreasingBy, IsPermutation};
 ghost use Rattle.tables_log.specs.BookView.{book_slots};
