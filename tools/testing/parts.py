@@ -48,6 +48,8 @@ PARTS = [
     Part("examples", "the runs that the documents show", (PROGRAM,), "examples_checks:check_examples"),
     Part("undecided", "judge if make decides nothing", (), "judge_checks:check_undecided"),
     Part("judge-files", "judge of files, and without a program", (PROGRAM,), "judge_checks:check_files"),
+    # It lists all databases of the server, so it comes before the parts that create many.
+    Part("outputs", "judge without output or memory", (PROGRAM, SERVER, PGLAST), "judged.outputs_checks:check_outputs"),
     Part("filters", "filters, by pgshard and by a server", (PROGRAM, SERVER), "catalog_checks:check_filters"),
     Part("shown", "the output of show, on a server", (PROGRAM, SERVER), "shown_checks:check_shown"),
     Part("unread", "filters that pgshard refuses to read", (PROGRAM, SERVER), "catalog_checks:check_unread"),
@@ -70,7 +72,6 @@ PARTS = [
     Part("many", "judge --databases, --watch", (PROGRAM, POSTGRESQL, PGLAST), "judged.many_checks:check_many"),
     Part("json", "judge's JSON", (PROGRAM, SERVER, PGLAST, JSONSCHEMA), "judged.json_checks:check_json"),
     Part("migrations", "examples/ci", (PROGRAM, SERVER, PGLAST), "judged.migrations_checks:check_migrations"),
-    Part("outputs", "judge without output or memory", (PROGRAM, SERVER, PGLAST), "judged.outputs_checks:check_outputs"),
     Part("intents", "judge with intentions", (PROGRAM, SERVER, PGLAST), "judged.intents_checks:check_intents"),
     Part("versions", "judge of later versions", (PROGRAM, SERVER, PGLAST), "judged.versions_checks:check_versions"),
     Part("what-if", "judge --with", (PROGRAM, POSTGRESQL, PGLAST), "judged.what_if_checks:check_what_if"),
