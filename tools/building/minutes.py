@@ -122,8 +122,8 @@ class Meter:
         return totals
 
     def slow(self) -> list[tuple[str, float]]:
-        """Returns the edits that took more than 40 seconds, with their seconds. A version of rt that does not number
-        edits tells only those apart that are the only one of their crate."""
+        """Returns the edits that took more than 40 seconds, with their seconds. Some versions of rt do not number edits.
+        Then the edits of a crate that has several cannot be told apart, and are left out."""
         seconds: Counter[Part] = Counter()
         for key, part in self.parts.items():
             if part.kind == "edits" and (part.edit is not None or len(edits_of(part.crate)) == 1):

@@ -48,7 +48,7 @@ PARTS = [
     Part("examples", "the runs that the documents show", (PROGRAM,), "examples_checks:check_examples"),
     Part("undecided", "judge if make decides nothing", (), "judge_checks:check_undecided"),
     Part("judge-files", "judge of files, and without a program", (PROGRAM,), "judge_checks:check_files"),
-    # It lists all databases of the server, so it comes before the parts that create many.
+    # This part lists all databases of the server, so it comes before the parts that create many.
     Part("outputs", "judge without output or memory", (PROGRAM, SERVER, PGLAST), "judged.outputs_checks:check_outputs"),
     Part("filters", "filters, by pgshard and by a server", (PROGRAM, SERVER), "catalog_checks:check_filters"),
     Part("shown", "the output of show, on a server", (PROGRAM, SERVER), "shown_checks:check_shown"),
