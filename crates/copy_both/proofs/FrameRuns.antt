@@ -11,7 +11,7 @@ use Rattle.copy_frames.specs.Contents.{status_in}
 use Rattle.copy_frames.specs.declared.frame.Frame.{Frame}
 use Rattle.copy_frames.specs.declared.status.Status.{Status}
 use Rattle.copy_both.specs.Events.{read_event, status_event, headed_event, data_event, is_end, event_of}
-use Rattle.copy_both.specs.HeardFrames.{IsFirst, IsAmong, IsLater, IsBookFor, begin_with, AsksFor, AsksIfStarted, BooksOf, IsStartedBy, HasEnd, Terminates, Ends, HasBadFrame, IsRefusedStart, IsAnsweredStart, IsStatus, HasStatusAhead, sent_then}
+use Rattle.copy_both.specs.HeardFrames.{IsFirst, IsAmong, IsLater, IsBookFor, begin_with, AsksFor, AsksIfStarted, BooksOf, IsStartedBy, HasEnd, IsTerminated, Terminates, Ends, HasBadFrame, IsRefusedStart, IsAnsweredStart, IsStatus, HasStatusAhead, sent_then}
 use Rattle.copy_both.specs.Hearing.{HearingOf, ServedFrom, BeginOf, Begins, Refuses, begin_by, begin_of, begun, confirmed_by, ended_by, event_heard, frame_heard, frames_heard, is_over, is_over_by, next_heard, offer_in, unless_over, with_fault}
 use Rattle.copy_both.specs.Refusals.{ExpectedQuery, error_response, state_of}
 use Rattle.copy_both.specs.StartAnswers.{Refused, asked_in, asked_of, text_of_query}
@@ -266,12 +266,14 @@ query_of served slots kind body slot start is = by_test (kind == 81)
 -- the result of all frames
 pub data Comes (checked : CheckedOf) (known : BooksOf) (frames : List Frame) (reach : ℕ) (last : HearingOf) : Type 0 where
   Comes_on : is_over last ≡ false → IsStartedBy checked known frames last.started → Comes checked known frames reach last
-  Comes_bad : (f : LinkFault) → HasBadFrame frames f → last.fault ≡ Some f → Comes checked known frames reach last
+  Comes_bad : (f : LinkFault) → HasBadFrame frames f → (last.started ≡ None → ⊥) → last.fault ≡ Some f
+      → Comes checked known frames reach last
   Comes_refused : (state : SqlState) → IsAnsweredStart checked known frames state last.response
       → last.fault ≡ Some (fault.BadStart state) → Comes checked known frames reach last
-  Comes_ahead : HasStatusAhead frames reach → last.fault ≡ Some fault.StatusAhead → Comes checked known frames reach last
-  Comes_ended : (kind : ℕ) → HasEnd frames kind → last.fault ≡ None → last.heard.ended ≡ Some kind
+  Comes_ahead : HasStatusAhead frames reach → (last.started ≡ None → ⊥) → last.fault ≡ Some fault.StatusAhead
       → Comes checked known frames reach last
+  Comes_ended : (kind : ℕ) → HasEnd frames kind → (last.started ≡ None → IsTerminated frames) → last.fault ≡ None
+      → last.heard.ended ≡ Some kind → Comes checked known frames reach last
 
 -- and what is known of the start
 pub record Ran (checked : CheckedOf) (known : BooksOf) (frames : List Frame) (reach : ℕ) (last : HearingOf) : Type 0 where
@@ -292,6 +294,9 @@ from_later checked known first others frames reach last slot start are asks is l
   comes = by_later later;
 }
   where
+    goes : last.started ≡ None → ⊥
+    goes none = let both : Some (slot, start) ≡ None = sym is ∙ none in cc
+
     by_later : Later reach others last → Comes checked known frames reach last
     by_later (GoesOn going) = Comes_on going (subst (IsStartedBy checked known frames) (sym is) asks)
     by_later (Faulty f bad fails) =
@@ -300,7 +305,7 @@ from_later checked known first others frames reach last slot start are asks is l
           later = later_in bad.frame first others frames are bad.among;
           fails =
               bad.fails;
-        }) fails
+        }) goes fails
     by_later (Ahead says fails) =
         Comes_ahead (record {
           frame = says.frame;
@@ -310,10 +315,10 @@ from_later checked known first others frames reach last slot start are asks is l
           is_status =
               says.is_status;
           ahead = says.ahead;
-        }) fails
+        }) goes fails
     by_later (Ended kind ends none so) =
         Comes_ended kind (Ends ends.frame (later_in ends.frame first others frames are ends.among) ends.kind_is
-        ends.ends) none so
+        ends.ends) (λ no. absurd (goes no)) none so
 
 -- ---- all frames
 
@@ -400,6 +405,7 @@ module _ (checked : CheckedOf) (known : BooksOf) (book : Book) (is_for : IsBookF
         asks = subst (AsksIfStarted checked known (frame ∷ frames)) (sym (ap (λ (x : HearingOf). x.started) stays ∙ none)) tt;
         comes =
             Comes_ended 88 (Terminates frame (is_first frame frames) is refl)
+            (λ no. record { frame = frame; first = is_first frame frames; kind_is = is })
             (ap (λ (x : HearingOf). x.fault) stays ∙ fault_over h.fault h.heard.ended going)
             (ap (λ (x : HearingOf). x.heard.ended) stays);
       }

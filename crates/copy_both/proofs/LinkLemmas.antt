@@ -60,6 +60,31 @@ frame_started served h frame s is =
     ∙ event_started served s.0 (event_of frame.kind frame.body) h)
     ∙ is
 
+-- nor does a frame then change what was sent
+
+confirmed_sent : (ahead : Bool) (slot : ℕ) (status : Status) (h : HearingOf)
+    → (confirmed_by ahead slot status h).sent ≡ h.sent
+confirmed_sent true slot status h = refl
+confirmed_sent false slot status h = refl
+
+event_sent : (served : ServedFrom) (slot : ℕ) (e : Result Event LinkFault) (h : HearingOf)
+    → (event_heard served slot e h).sent ≡ h.sent
+event_sent served slot (Err fault) h = refl
+event_sent served slot (Ok (event.End kind)) h = refl
+event_sent served slot (Ok (event.Status status)) h =
+    confirmed_sent (nat_lt (min h.sent (end_lsn_of served.commits)) status.flushed) slot status h
+
+over_sent : (over : Bool) (h next : HearingOf) → next.sent ≡ h.sent → (unless_over over h next).sent ≡ h.sent
+over_sent true h next same = refl
+over_sent false h next same = same
+
+pub frame_sent : (served : ServedFrom) (h : HearingOf) (frame : Frame) (s : ℕ × ℕ) → h.started ≡ Some s
+    → (frame_heard served h frame).sent ≡ h.sent
+frame_sent served h frame s is =
+    over_sent (is_over h) h (next_heard served frame h.started h)
+    (ap (λ (o : Option (ℕ × ℕ)). (next_heard served frame o h).sent) is
+    ∙ event_sent served s.0 (event_of frame.kind frame.body) h)
+
 pub frames_started : (served : ServedFrom) (h : HearingOf) (frames : List Frame) (s : ℕ × ℕ) → h.started ≡ Some s
     → (frames_heard served h frames).started ≡ Some s
 unfolding frames_heard

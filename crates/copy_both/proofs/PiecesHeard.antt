@@ -14,7 +14,7 @@ use Rattle.copy_frames.specs.declared.fault.FrameFault.TheVariants as frame
 use Rattle.copy_frames.specs.declared.frame.Frame.{Frame}
 use Rattle.copy_frames.proofs.PieceLemmas.{cut_more, more_after, rest_after}
 use Rattle.copy_both.specs.Ears.{ear_checked, ear_refusal, ear_started, ear_heard, answer_in, HearLeaves, HearsPiece, Holds}
-use Rattle.copy_both.specs.HeardFrames.{TellsStart, reported_start, frames_in, IsAnswered, IsBookFor, BooksOf, AsksIfStarted, IsStartedBy, HasHeard, HasEnd, HasBadFrame, HasLinkFault, sent_then, reach_of, GoesOnOrEnds, Explains, HasHeardOn, LateStartsAreRequested, NothingIsHeard, PiecesAreHeard, Requests}
+use Rattle.copy_both.specs.HeardFrames.{SentNone, TellsStart, reported_start, frames_in, IsAnswered, IsBookFor, BooksOf, AsksIfStarted, IsStartedBy, IsTerminated, HasHeard, HasEnd, HasBadFrame, HasLinkFault, sent_then, reach_of, GoesOnOrEnds, Explains, HasHeardOn, LateStartsAreRequested, NothingIsHeard, PiecesAreHeard, Requests}
 use Rattle.copy_both.specs.Hearing.{HearingOf, ServedFrom, answer_by, answer_of, frames_heard, reported_heard, is_over, is_over_by, link_fault, then_fault, unless_over, with_fault}
 use Rattle.copy_both.specs.Listening.{silence, Leaves, fed, resting, part_heard}
 use Rattle.copy_both.specs.Phases.{IsReady, phase_after, phase_by}
@@ -75,7 +75,8 @@ length_fault f last going = ap (λ (b : Bool). (unless_over b last (with_fault (
 data Answered (checked : CheckedOf) (known : BooksOf) (frames : List Frame) (f : Option FrameFault) (last : HearingOf)
     (ended : Option ℕ) : Type 0 where
   Answered_on : f ≡ None → IsStartedBy checked known frames last.started → ended ≡ None → Answered checked known frames f last ended
-  Answered_end : (kind : ℕ) → HasEnd frames kind → ended ≡ Some kind → Answered checked known frames f last ended
+  Answered_end : (kind : ℕ) → HasEnd frames kind → (last.started ≡ None → IsTerminated frames) → ended ≡ Some kind
+      → Answered checked known frames f last ended
 
 some_is : (f : Option LinkFault) (g : LinkFault) → f ≡ Some g → f ≡ None → ⊥
 some_is f g some none = let clash : Some g ≡ None = sym some ∙ none in cc
@@ -100,13 +101,13 @@ module _ (checked : CheckedOf) (known : BooksOf) (frames : List Frame) (reach : 
   ok_comes : (f : Option FrameFault) (reported : Heard) → Comes checked known frames reach last
       → answer_of (then_fault f last) ≡ Ok reported → Answered checked known frames f last reported.ended
   ok_comes f reported (Comes_on going started) is = ok_on f reported going started is
-  ok_comes f reported (Comes_bad g bad some) is = absurd (wrong f reported g some is)
+  ok_comes f reported (Comes_bad g bad goes some) is = absurd (wrong f reported g some is)
   ok_comes f reported (Comes_refused state answered some) is = absurd (wrong f reported (fault.BadStart state) some is)
-  ok_comes f reported (Comes_ahead says some) is = absurd (wrong f reported fault.StatusAhead some is)
-  ok_comes f reported (Comes_ended kind ends none some) is =
+  ok_comes f reported (Comes_ahead says goes some) is = absurd (wrong f reported fault.StatusAhead some is)
+  ok_comes f reported (Comes_ended kind ends parted none some) is =
       let stays : then_fault f last ≡ last = end_stays f last kind none some in
       let same = (ok_faultless last.fault (reported_heard last.heard) reported (sym (ap answer_of stays) ∙ is)).1 in
-      Answered_end kind ends (sym (ap (λ (x : Heard). x.ended) same) ∙ some)
+      Answered_end kind ends parted (sym (ap (λ (x : Heard). x.ended) same) ∙ some)
 
 module _ (checked : CheckedOf) (known : BooksOf) (bytes : List ℕ) (reach : ℕ) (last : HearingOf) where
   by_length : (f : FrameFault) → fault_in 65536 bytes ≡ Some f → HasLinkFault checked known bytes reach (link_fault f)
@@ -138,7 +139,7 @@ module _ (checked : CheckedOf) (known : BooksOf) (bytes : List ℕ) (reach : ℕ
       → Comes checked known (frames_in bytes) reach last → (then_fault f last).fault ≡ Some g
       → HasLinkFault checked known bytes reach g
   err_comes f g is (Comes_on going started) some = err_on f g is going some
-  err_comes f g is (Comes_bad other bad fails) some =
+  err_comes f g is (Comes_bad other bad goes fails) some =
       subst (HasLinkFault checked known bytes reach)
       (same_fault (then_fault f last).fault other g (fault_stays f last other fails) some)
       (by_frame other (event_fault bad.frame other bad.fails) bad)
@@ -146,11 +147,11 @@ module _ (checked : CheckedOf) (known : BooksOf) (bytes : List ℕ) (reach : ℕ
       subst (HasLinkFault checked known bytes reach)
       (same_fault (then_fault f last).fault (fault.BadStart state) g
       (fault_stays f last (fault.BadStart state) fails) some) answered.refused
-  err_comes f g is (Comes_ahead says fails) some =
+  err_comes f g is (Comes_ahead says goes fails) some =
       subst (HasLinkFault checked known bytes reach)
       (same_fault (then_fault f last).fault fault.StatusAhead g (fault_stays f last fault.StatusAhead fails) some)
       says
-  err_comes f g is (Comes_ended kind ends none so) some =
+  err_comes f g is (Comes_ended kind ends parted none so) some =
       absurd (some_is last.fault g (sym (ap (λ (x : HearingOf). x.fault) (end_stays f last kind none so)) ∙ some) none)
 
   -- the response to a start that is refused
@@ -181,16 +182,40 @@ module _ (checked : CheckedOf) (known : BooksOf) (bytes : List ℕ) (reach : ℕ
   answered_comes : (f : Option FrameFault) (g : LinkFault) → Comes checked known (frames_in bytes) reach last
       → (then_fault f last).fault ≡ Some g → Has g
   answered_comes f g (Comes_on going started) some = answered_on f g going some
-  answered_comes f g (Comes_bad other bad fails) some =
+  answered_comes f g (Comes_bad other bad goes fails) some =
       subst Has (same_fault (then_fault f last).fault other g (fault_stays f last other fails) some)
       (of_frame other (event_fault bad.frame other bad.fails))
   answered_comes f g (Comes_refused state answered fails) some =
       subst Has (same_fault (then_fault f last).fault (fault.BadStart state) g
       (fault_stays f last (fault.BadStart state) fails) some) answered
-  answered_comes f g (Comes_ahead says fails) some =
+  answered_comes f g (Comes_ahead says goes fails) some =
       subst Has (same_fault (then_fault f last).fault fault.StatusAhead g
       (fault_stays f last fault.StatusAhead fails) some) tt
-  answered_comes f g (Comes_ended kind ends none so) some =
+  answered_comes f g (Comes_ended kind ends parted none so) some =
+      absurd (some_is last.fault g (sym (ap (λ (x : HearingOf). x.fault) (end_stays f last kind none so)) ∙ some) none)
+
+module _ (checked : CheckedOf) (known : BooksOf) (bytes : List ℕ) (reach : ℕ) (last : HearingOf)
+    (idle : last.started ≡ None) where
+  none_by : (g : LinkFault) → frames_in bytes ≡ [] → SentNone (frames_in bytes) g
+  none_by fault.FrameTooLong none = none
+  none_by fault.BadLength none = none
+  none_by (fault.Unexpected byte) none = none
+  none_by (fault.BadStart state) none = tt
+  none_by fault.StatusAhead none = none
+  none_by fault.Closed none = none
+  none_by fault.OutOfMemory none = tt
+
+  none_comes : (f : Option FrameFault) (g : LinkFault) → Comes checked known (frames_in bytes) reach last
+      → (then_fault f last).fault ≡ Some g → SentNone (frames_in bytes) g
+  none_comes f g (Comes_on going started) some =
+      none_by g (subst (IsStartedBy checked known (frames_in bytes)) idle started)
+  none_comes f g (Comes_bad other bad goes fails) some = absurd (goes idle)
+  none_comes f g (Comes_refused state answered fails) some =
+      subst (SentNone (frames_in bytes))
+      (same_fault checked known bytes reach last (then_fault f last).fault (fault.BadStart state) g
+      (fault_stays f last (fault.BadStart state) fails) some) tt
+  none_comes f g (Comes_ahead says goes fails) some = absurd (goes idle)
+  none_comes f g (Comes_ended kind ends parted none so) some =
       absurd (some_is last.fault g (sym (ap (λ (x : HearingOf). x.fault) (end_stays f last kind none so)) ∙ some) none)
 
 same_response : (b : Bool) (one other : HearingOf) → other.response ≡ one.response
@@ -270,23 +295,26 @@ module _ (known : BooksOf) (bytes piece : List ℕ) (old new : Ear) (before afte
       → GoesOnOrEnds (ear_checked old) known all new heard.ended
   ok_explained heard left (Answered_on good started none) =
       subst (GoesOnOrEnds (ear_checked old) known all new) (sym none) (hears_on heard left none good started)
-  ok_explained heard left (Answered_end kind ends some) = subst (GoesOnOrEnds (ear_checked old) known all new) (sym some) ends
+  ok_explained heard left (Answered_end kind ends parted some) =
+      subst (GoesOnOrEnds (ear_checked old) known all new) (sym some)
+      (ends, λ no. parted (sym (left.leaves.started ∙ total_started) ∙ no))
 
   -- all of the piece was heard
   by_whole : ear_started new ≡ last.started → (result : Result Heard LinkFault)
       → TellsStart (ear_started old) (ear_started new) result
       → Explains (ear_checked old) known all new (reach_of old new before sent) result
       → IfErr result (IsAnswered (ear_checked old) known (frames_in all) (ear_refusal new))
+      → (ear_started new ≡ None → IfErr result (SentNone (frames_in all)))
       → HasHeardOn (ear_checked old) known all old new before sent result
-  by_whole is result tells explains answered = record {
+  by_whole is result tells explains answered none = record {
     stays = λ s so. is ∙ frames_started served start (frames_of whole) s so;
     asks = subst (AsksIfStarted (ear_checked old) known (frames_in all)) (sym is) ran.asks;
     tells = tells;
     explains = explains;
     answered = answered;
+    none = none;
   }
 
-  -- the start that is reported
   ok_tells : (heard : Heard) → ear_started new ≡ last.started → answer_of (ear_heard old before piece sent) ≡ Ok heard
       → heard.started ≡ reported_start (ear_started old) (ear_started new)
   ok_tells heard is answer =
@@ -311,6 +339,8 @@ module _ (known : BooksOf) (bytes piece : List ℕ) (old new : Ear) (before afte
       (subst (λ (x : List ℕ). IsAnswered (ear_checked old) known (frames_in all) x g)
       (sym (leaves.response ∙ fault_response (cut_fault whole) last))
       (answered_comes (ear_checked old) known all (reached last.started) last (cut_fault whole) g ran.comes some))
+      (λ idle. none_comes (ear_checked old) known all (reached last.started) last (sym same ∙ idle) (cut_fault whole) g
+      ran.comes some)
 
   -- memory was refused after the first few frames
   err_memory : (count : ℕ)
@@ -335,6 +365,7 @@ module _ (known : BooksOf) (bytes piece : List ℕ) (old new : Ear) (before afte
         tells = tt;
         explains = tt;
         answered = tt;
+        none = λ idle. tt;
       }
 
   by_result : (result : Result Heard LinkFault)
@@ -345,7 +376,7 @@ module _ (known : BooksOf) (bytes piece : List ℕ) (old new : Ear) (before afte
       (ok_tells heard (left.leaves.started ∙ total_started) is)
       (ok_explained heard left
       (ok_comes (ear_checked old) known (frames_in all) (reached last.started) last (cut_fault whole) heard ran.comes
-      is)) tt
+      is)) tt (λ idle. tt)
   by_result (Err fault.OutOfMemory) is left = err_memory left.leaves
   by_result (Err fault.FrameTooLong) is left = err_whole fault.FrameTooLong left.leaves is
   by_result (Err fault.BadLength) is left = err_whole fault.BadLength left.leaves is

@@ -1,7 +1,8 @@
 -- What an ear that hears a piece leaves confirmed: only the slot of its stream moves, up to the greatest position of the
--- statuses that it heard.
+-- statuses that it heard, which was sent.
 use Rattle.std.proofs.Common.{◌≡◌, ◌≢◌, ℕ, zero, suc, ◌<◌, ◌≤◌, ◌==◌, min, max, Bool, true, false, if◌then◌else◌, List, [], ◌∷◌, take, length, refl, sym, ap, subst, ◌∙◌, arith}
 use Rattle.std.specs.Prelude.{Option, Some, None, Result, Ok, Err, nat_lt, slice_get, slice_set}
+use Rattle.std.proofs.lemmas.Bool.{ltb-false}
 use Rattle.std.proofs.lemmas.List.{length-set}
 use mathlib.Core.Logic.{dite}
 use native.Mathlib.Decide.{ℕ_discrete}
@@ -18,6 +19,7 @@ use Rattle.copy_frames.specs.declared.status.Status.{Status}
 use Rattle.copy_both.specs.Ears.{HearLeaves, ear_confirmed, ear_phase, ear_started}
 use Rattle.copy_both.specs.Events.{event_of}
 use Rattle.copy_both.specs.Hearing.{BeginOf, Begins, Refuses, HearingOf, ServedFrom, begin_of, begun, confirmed_by, ended_by, event_heard, frame_heard, frames_heard, is_over, next_heard, unless_over}
+use Rattle.copy_both.specs.HeardFrames.{sent_then}
 use Rattle.copy_both.specs.Listening.{Leaves, PieceLeaves, fed, held_frames, part_heard, piece_heard, silence}
 use Rattle.copy_both.specs.Sessions.{hearing_view, served_by}
 use Rattle.copy_both.specs.declared.ear.Ear.{Ear}
@@ -30,7 +32,7 @@ use Rattle.copy_both.specs.declared.phase.Phase.{Phase}
 use Rattle.copy_both.specs.declared.phase.Phase.TheVariants as phase
 use Rattle.copy_both.proofs.FrameRuns.{over_by_end}
 use Rattle.copy_both.proofs.HearingLemmas.{over_stays}
-use Rattle.copy_both.proofs.LinkLemmas.{all_is_part, frame_started, frames_started}
+use Rattle.copy_both.proofs.LinkLemmas.{all_is_part, frame_sent, frame_started, frames_started}
 use Rattle.copy_both.proofs.StartBounds.{faultless_start, is_begun}
 use Rattle.filter_tree.proofs.Tests.{by_test}
 
@@ -109,9 +111,10 @@ moves_both slot old middle new first second one other = record {
 
 -- ---- frames while a stream runs
 
--- the greatest position that they confirm, for the slot and in all
+-- the greatest position that they confirm, for the slot and in all, which was sent
 record StreamMoves (slot : ℕ) (h last : HearingOf) : Type 0 where
   pub greatest : ℕ
+  pub low : greatest ≤ h.sent
   pub confirmed_is : last.confirmed ≡ max h.confirmed greatest
   pub slots : Moves slot h.slots last.slots greatest
 
@@ -119,15 +122,18 @@ module _ (served : ServedFrom) where
   quiet : (slot : ℕ) (h next : HearingOf) → next.confirmed ≡ h.confirmed → next.slots ≡ h.slots → StreamMoves slot h next
   quiet slot h next same at = record {
     greatest = 0;
+    low = omega arith;
     confirmed_is = same ∙ same_greatest h.confirmed;
     slots = subst (λ (slots : List Slot). Moves slot h.slots slots 0) (sym at) (stays_put slot h.slots);
   }
 
   ahead_moves : (ahead : Bool) (slot : ℕ) (status : Status) (h : HearingOf)
+      → nat_lt (min h.sent (end_lsn_of served.commits)) status.flushed ≡ ahead
       → StreamMoves slot h (confirmed_by ahead slot status h)
-  ahead_moves true slot status h = quiet slot h (confirmed_by true slot status h) refl refl
-  ahead_moves false slot status h = record {
+  ahead_moves true slot status h is = quiet slot h (confirmed_by true slot status h) refl refl
+  ahead_moves false slot status h is = record {
     greatest = status.flushed;
+    low = let all = ltb-false (min h.sent (end_lsn_of served.commits)) status.flushed is in omega (arith, all);
     confirmed_is = refl;
     slots = confirmed_moves h.slots slot status.flushed;
   }
@@ -136,7 +142,7 @@ module _ (served : ServedFrom) where
   event_moves slot (Err f) h = quiet slot h (event_heard served slot (Err f) h) refl refl
   event_moves slot (Ok (event.End kind)) h = quiet slot h (ended_by kind h) refl refl
   event_moves slot (Ok (event.Status status)) h =
-      ahead_moves (nat_lt (min h.sent (end_lsn_of served.commits)) status.flushed) slot status h
+      ahead_moves (nat_lt (min h.sent (end_lsn_of served.commits)) status.flushed) slot status h refl
 
   over_moves : (over : Bool) (slot : ℕ) (h next : HearingOf) → StreamMoves slot h next
       → StreamMoves slot h (unless_over over h next)
@@ -159,6 +165,7 @@ module _ (served : ServedFrom) where
       let rest = stream_moves frames (frame_heard served h frame) s (frame_started served h frame s is) in
       record {
         greatest = max one.greatest rest.greatest;
+        low = let same = frame_sent served h frame s is in omega (arith, one.low, rest.low, same);
         confirmed_is = rest.confirmed_is ∙ (ap (λ (n : ℕ). max n rest.greatest) one.confirmed_is
             ∙ both_greatest h.confirmed one.greatest rest.greatest);
         slots = moves_both s.0 h.slots (frame_heard served h frame).slots
@@ -173,9 +180,11 @@ pub record IsFrom (slots : List Slot) (s : ℕ × ℕ) : Type 0 where
   pub exists : s.0 < length slots
   pub low : confirmed_at slots s.0 ≤ s.1
 
--- The stream that started stays. Only its slot moves, by the greatest position that is confirmed.
-pub record Raises (was now : Option (ℕ × ℕ)) (old new : List Slot) (before after : ℕ) : Type 0 where
+-- The stream that started stays. Only its slot moves, by the greatest position that is confirmed, which was sent.
+pub record Raises (sent : ℕ) (was now : Option (ℕ × ℕ)) (old new : List Slot) (before after : ℕ) : Type 0 where
   pub greatest : ℕ
+  pub low : greatest ≤ sent_then was sent now
+  pub long : length new ≡ length old
   pub stays : (s : ℕ × ℕ) → was ≡ Some s → now ≡ Some s
   pub begins : was ≡ None → (s : ℕ × ℕ) → now ≡ Some s → IsFrom old s
   pub after_is : after ≡ max before greatest
@@ -196,12 +205,14 @@ greatest_low position confirmed start is = omega (arith, is)
 
 module _ (served : ServedFrom) where
   abbrev RaisesFrom : Option (ℕ × ℕ) → HearingOf → HearingOf → Type 0
-  RaisesFrom was h last = Raises was last.started h.slots last.slots h.confirmed last.confirmed
+  RaisesFrom was h last = Raises h.sent was last.started h.slots last.slots h.confirmed last.confirmed
 
   unmoved : (was : Option (ℕ × ℕ)) (h last : HearingOf) → last.started ≡ was → last.slots ≡ h.slots
       → last.confirmed ≡ h.confirmed → RaisesFrom was h last
   unmoved was h last same at still = record {
     greatest = 0;
+    low = omega arith;
+    long = ap (λ (slots : List Slot). length slots) at;
     stays = λ s is. same ∙ is;
     begins = λ none s is. none_some s (sym none ∙ (sym same ∙ is));
     after_is = still ∙ same_greatest h.confirmed;
@@ -238,6 +249,8 @@ module _ (served : ServedFrom) where
       let long : length (started h.slots slot) ≡ length h.slots = started_long h.slots slot (slice_get h.slots slot) in
       record {
         greatest = moves.greatest;
+        low = subst (λ (o : Option (ℕ × ℕ)). moves.greatest ≤ sent_then None h.sent o) (sym at) moves.low;
+        long = moves.slots.long ∙ long;
         stays = λ s is. none_some s is;
         begins = λ _ s is. subst (IsFrom h.slots) (pair_of (slot, start) s (sym at ∙ is))
             (begins_from h.slots frame slot start begins);
@@ -284,6 +297,8 @@ module _ (served : ServedFrom) where
       let at : last.started ≡ Some s = frames_started served h frames s is in
       record {
         greatest = moves.greatest;
+        low = moves.low;
+        long = moves.slots.long;
         stays = λ t same. at ∙ same;
         begins = λ no t now. none_some s (sym no);
         after_is = moves.confirmed_is;
@@ -304,8 +319,8 @@ module _ (served : ServedFrom) where
 
 module _ (piece : List ℕ) (sent : ℕ) (old new : Ear) (before after : Book) where
   abbrev RaisesBook : Type 0
-  RaisesBook = Raises (ear_started old) (ear_started new) (book_slots before) (book_slots after) (ear_confirmed old)
-      (ear_confirmed new)
+  RaisesBook = Raises sent (ear_started old) (ear_started new) (book_slots before) (book_slots after)
+      (ear_confirmed old) (ear_confirmed new)
 
   -- the first frames of the piece were heard, this number of them
   by_part : (count : ℕ)
@@ -315,11 +330,11 @@ module _ (piece : List ℕ) (sent : ℕ) (old new : Ear) (before after : Book) w
       let some : List Frame = take count (held_frames (fed old.frames piece)) in
       let start : HearingOf = hearing_view old.session (silence sent) before in
       let last : HearingOf = frames_heard (served_by old.session before) start some in
-      subst (λ (o : Option (ℕ × ℕ)). Raises (ear_started old) o (book_slots before) (book_slots after)
+      subst (λ (o : Option (ℕ × ℕ)). Raises sent (ear_started old) o (book_slots before) (book_slots after)
       (ear_confirmed old) (ear_confirmed new)) (sym leaves.started)
-      (subst (λ (slots : List Slot). Raises (ear_started old) last.started (book_slots before) slots
+      (subst (λ (slots : List Slot). Raises sent (ear_started old) last.started (book_slots before) slots
       (ear_confirmed old) (ear_confirmed new)) (sym leaves.book.slots_are)
-      (subst (Raises (ear_started old) last.started (book_slots before) last.slots (ear_confirmed old))
+      (subst (Raises sent (ear_started old) last.started (book_slots before) last.slots (ear_confirmed old))
       (sym leaves.confirmed)
       (heard_raises (served_by old.session before) some start (ear_started old) refl)))
 
@@ -342,6 +357,8 @@ module _ (piece : List ℕ) (sent : ℕ) (old new : Ear) (before after : Book) w
       → book_slots after ≡ book_slots before → RaisesBook
   by_stay same still at = record {
     greatest = 0;
+    low = omega arith;
+    long = ap (λ (slots : List Slot). length slots) at;
     stays = λ s is. same ∙ is;
     begins = λ none s is. none_some s (sym none ∙ (sym same ∙ is));
     after_is = still ∙ same_greatest (ear_confirmed old);
@@ -360,7 +377,7 @@ module _ (piece : List ℕ) (sent : ℕ) (old new : Ear) (before after : Book) w
 -- a law: whatever an ear hears, it raises only what is confirmed for the slot of its stream, as its statuses say
 pub hearing_raises : (old new : Ear) (before after : Book) (piece : List ℕ) (sent : ℕ) (result : Result Heard LinkFault)
     → HearLeaves (ear_phase old) old new before after piece sent result
-    → Raises (ear_started old) (ear_started new) (book_slots before) (book_slots after) (ear_confirmed old)
+    → Raises sent (ear_started old) (ear_started new) (book_slots before) (book_slots after) (ear_confirmed old)
     (ear_confirmed new)
 hearing_raises old new before after piece sent result left =
     by_phase piece sent old new before after (ear_phase old) result left

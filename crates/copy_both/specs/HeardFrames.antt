@@ -1,7 +1,7 @@
 -- What an ear has heard of all bytes since its first, in whatever pieces they came: which frame started the stream,
 -- which has a fault, and which ended the connection ("55.4. Streaming Replication Protocol", "55.7. Message
 -- Formats").
-use Rattle.std.specs.Prelude.{◌≡◌, ◌<◌, ◌⊎◌, ℕ, ◌==◌, min, Bool, true, false, List, [], ◌∷◌, ◌++◌, Contains, length, slice_get, Option, Some, None, Result, Ok, Err, IfErr}
+use Rattle.std.specs.Prelude.{◌≡◌, ◌<◌, ◌≤◌, ◌⊎◌, ℕ, ◌==◌, min, Bool, true, false, List, [], ◌∷◌, ◌++◌, Contains, length, slice_get, Option, Some, None, Result, Ok, Err, IfErr}
 use Rattle.filter_tree.specs.Memory.{Answers}
 use Rattle.shard_checker.specs.CheckedView.{CheckedOf}
 use Rattle.tables_log.specs.BookView.{book_checked, book_log, book_slots}
@@ -52,10 +52,11 @@ pub record IsLater (frame : Frame) (frames : List Frame) : Type 0 where
 
 -- ---- the start
 
--- which books a publisher has had: their transactions are a beginning of this log, and the slots that streams used are
--- those by one of these tests of a slot's number
+-- which books a publisher has had: their transactions are a beginning of this log, no fewer than this, and the slots
+-- that streams used are those by one of these tests of a slot's number
 pub record BooksOf : Type 0 where
   pub log : List Transaction
+  pub least : ℕ
   pub uses : List (ℕ → Bool)
 
 -- the first transactions of the log
@@ -70,6 +71,7 @@ pub record IsBookFor (checked : CheckedOf) (known : BooksOf) (book : Book) : Typ
   pub transactions : List Transaction
   pub stands : StandsFor book transactions
   pub begins : IsBeginning known.log transactions
+  pub enough : known.least ≤ length transactions
   pub used : ℕ → Bool
   pub among : Contains known.uses used
   pub slots_are : AreInUse used (book_slots book)
@@ -119,6 +121,12 @@ pub record HasHeard (checked : CheckedOf) (known : BooksOf) (bytes : List ℕ) (
 pub data HasEnd (frames : List Frame) (kind : ℕ) : Type 0 where
   Terminates : (frame : Frame) → IsFirst frame frames → frame.kind ≡ kind → kind ≡ 88 → HasEnd frames kind
   Ends : (frame : Frame) → IsLater frame frames → frame.kind ≡ kind → is_end kind ≡ true → HasEnd frames kind
+
+-- the first frame is Terminate, `X`
+pub record IsTerminated (frames : List Frame) : Type 0 where
+  pub frame : Frame
+  pub first : IsFirst frame frames
+  pub kind_is : frame.kind ≡ 88
 
 -- ---- faults
 
@@ -194,11 +202,19 @@ abbrev pub reach_of : Ear → Ear → Book → ℕ → ℕ
 reach_of old new book sent =
     min (sent_then (ear_started old) sent (ear_started new)) (end_lsn_of (length (book_log book)))
 
+-- what was sent before any stream if this fault ended it: no whole frame, unless a start was refused, or memory was
+abbrev pub SentNone : List Frame → LinkFault → Type 0
+SentNone frames (fault.BadStart state) = Unit {0}
+SentNone frames fault.OutOfMemory = Unit {0}
+SentNone frames other = frames ≡ []
+
 -- ---- a piece
 
+-- an ear that hears on, or ended by a frame, which is a Terminate before any other if no stream was started
 abbrev pub GoesOnOrEnds : CheckedOf → BooksOf → List ℕ → Ear → Option ℕ → Type 0
 GoesOnOrEnds checked known bytes ear None = HasHeard checked known bytes ear
-GoesOnOrEnds checked known bytes ear (Some kind) = HasEnd (frames_in bytes) kind
+GoesOnOrEnds checked known bytes ear (Some kind) =
+    HasEnd (frames_in bytes) kind × (ear_started ear ≡ None → IsTerminated (frames_in bytes))
 
 abbrev pub Explains : CheckedOf → BooksOf → List ℕ → Ear → ℕ → Result Heard LinkFault → Type 0
 Explains checked known bytes ear reach (Ok heard) = GoesOnOrEnds checked known bytes ear heard.ended
@@ -223,6 +239,7 @@ pub record HasHeardOn (checked : CheckedOf) (known : BooksOf) (bytes : List ℕ)
   pub tells : TellsStart (ear_started old) (ear_started new) result
   pub explains : Explains checked known bytes new (reach_of old new before sent) result
   pub answered : IfErr result (IsAnswered checked known (frames_in bytes) (ear_refusal new))
+  pub none : ear_started new ≡ None → IfErr result (SentNone (frames_in bytes))
 
 -- ---- laws
 
