@@ -1,8 +1,7 @@
 -- What is so of a publisher's book stays so, and what it makes of answers.
-use Rattle.std.proofs.Common.{◌≡◌, ℕ, ◌+◌, ◌≤◌, List, [], ◌∷◌, ◌++◌, length, sym, ◌∙◌, ap, subst, arith, length-append, refl}
-use Rattle.std.specs.Prelude.{All, replicate, true}
+use Rattle.std.proofs.Common.{◌≡◌, ℕ, ◌+◌, ◌≤◌, List, [], ◌∷◌, ◌++◌, length, sym, ◌∙◌, ap, subst, arith, length-append, refl, true≢false}
+use Rattle.std.specs.Prelude.{replicate, true}
 use Rattle.std.proofs.lemmas.List.{length-replicate}
-use Rattle.std.proofs.lemmas.List.Elements.{All-replicate}
 use Rattle.row_owners.specs.Owners.{OwnedWhere}
 use Rattle.row_owners.specs.declared.owner_set.OwnerSet.{OwnerSet}
 use Rattle.shard_checker.specs.CheckedView.{CheckedOf, setting_in}
@@ -15,7 +14,6 @@ use Rattle.tables_log.specs.Committing.{IsNew, Commits, IsKept, ChangesSlots, Re
 use Rattle.tables_log.specs.Commits.{CommitOf}
 use Rattle.tables_log.specs.Logs.{entry_at}
 use Rattle.tables_log.specs.Routes.{gets_some}
-use Rattle.tables_log.specs.Lsn.{end_lsn_of}
 use Rattle.tables_log.specs.Slots.{AreInUse, KeepsUse}
 use Rattle.tables_log.specs.StandsFor.{Transaction, AreAccepted, StandsFor, after}
 use Rattle.tables_log.specs.declared.book.Book.{Book}
@@ -28,28 +26,24 @@ use Rattle.publisher_desk.specs.Held.{IsLogOf, AddsEntry, AreEventsOf, IsBookOf,
 use Rattle.publisher_desk.specs.Logged.{IsHistoryOf, Refuses}
 use Rattle.publisher_desk.specs.Receipts.{ReceiptOf, receipt_of, transactions_of}
 use Rattle.publisher_desk.specs.Sights.{AddsTo, Sees, view_of}
-use Rattle.publisher_desk.specs.SlotEvents.{AreConfirmed, AreDated, KeepsConfirmed, confirmed_after, use_after}
+use Rattle.publisher_desk.specs.SlotEvents.{AreConfirmed, AreDated, AreSent, HaveEnded, KeepsConfirmed, advanced_after, confirmed_after, over_after, sent_at, use_after}
 use Rattle.publisher_desk.specs.SlotSights.{slot_view}
 use Rattle.publisher_desk.specs.declared.sight.Sight.{Sight}
 use Rattle.publisher_desk.specs.declared.sight.HistoryView.{HistoryView}
 use Rattle.publisher_desk.specs.declared.connection_state.ConnectionState.{ConnectionState}
 use Rattle.publisher_desk.specs.declared.slot_event.SlotEvent.{SlotEvent}
-use Rattle.publisher_desk.specs.declared.slot_event.SlotEvent.TheVariants.{Acquired, Confirmed, Released}
+use Rattle.publisher_desk.specs.declared.slot_event.SlotEvent.TheVariants.{Acquired, Advanced, Confirmed, Released}
 use Rattle.publisher_desk.specs.declared.slot_sight.SlotView.{SlotView}
 use Rattle.tables_log.proofs.SlotUses.{new_unused}
-use Rattle.publisher_desk.proofs.PositionLemmas.{new_unconfirmed}
-
-sent_longer : (connections : List ConnectionState) (commits more : ℕ) → commits ≤ more
-    → All (λ (connection : ConnectionState). connection.sent ≤ end_lsn_of commits) connections
-    → All (λ (connection : ConnectionState). connection.sent ≤ end_lsn_of more) connections
-sent_longer connections commits more longer sent place other low =
-    let one = sent place other low in omega (arith, one)
+use Rattle.publisher_desk.proofs.PositionLemmas.{new_unconfirmed, new_unsent}
 
 dated_longer : (commits more : ℕ) → commits ≤ more → (events : List SlotEvent) → AreDated commits events
     → AreDated more events
 dated_longer commits more longer [] dated = tt
 dated_longer commits more longer (Acquired one ∷ events) dated =
     (tt, dated_longer commits more longer events dated.1)
+dated_longer commits more longer (Advanced one ∷ events) dated =
+    let low = dated.0 in (omega (arith, low, longer), dated_longer commits more longer events dated.1)
 dated_longer commits more longer (Confirmed one ∷ events) dated =
     (tt, dated_longer commits more longer events dated.1)
 dated_longer commits more longer (Released one ∷ events) dated =
@@ -81,14 +75,16 @@ new_held one checked book limit most total count idle connections history events
       };
       counted = ap length new.log ∙ sym none;
       slots = ap length all ∙ length-replicate count idle ∙ long;
-      sent = subst (All (λ (c : ConnectionState). c.sent ≤ end_lsn_of (length (book_log book)))) (sym all)
-          (All-replicate (λ (c : ConnectionState). c.sent ≤ end_lsn_of (length (book_log book))) count idle
-          (omega (arith, unsent)));
+      sent = subst (λ (view : SlotView). AreSent (advanced_after view.all) connections) (sym eventless)
+          (λ slot. ap (λ (list : List ConnectionState). sent_at list slot) all ∙ new_unsent count idle unsent slot);
+      ended = subst (λ (view : SlotView). HaveEnded (over_after view.all) connections) (sym eventless)
+          (λ slot over. absurd (true≢false (sym over)));
       history_is = subst (IsHistoryOf book) (sym empty) (record { stands = stands; idle = refl });
       events_are = subst (AreEventsOf book) (sym eventless) (record {
         used = new_unused book one limit new;
         confirmed = λ number. new_unconfirmed book one limit new number;
         turns = tt;
+        within = tt;
         dated = tt;
         idle = refl;
       });
@@ -113,12 +109,14 @@ commit_held checked limit old new commands time number total more connections hi
       };
       counted = omega (arith, count, held.counted, one);
       slots = held.slots;
-      sent = sent_longer connections (length (book_log old)) (length (book_log new)) (omega (arith, count)) held.sent;
+      sent = held.sent;
+      ended = held.ended;
       history_is = of_new;
       events_are = record {
         used = subst (AreInUse (use_after events.all)) (sym commits.slots) held.events_are.used;
         confirmed = subst (AreConfirmed (confirmed_after events.all)) (sym commits.slots) held.events_are.confirmed;
         turns = held.events_are.turns;
+        within = held.events_are.within;
         dated = dated_longer (length (book_log old)) (length (book_log new)) (omega (arith, count)) events.all
             held.events_are.dated;
         idle = held.events_are.idle;
@@ -139,8 +137,8 @@ slots_held checked limit old new slots total connections history events changes 
   };
   counted = ap length changes.log ∙ held.counted;
   slots = held.slots;
-  sent = subst (λ log. All (λ (c : ConnectionState). c.sent ≤ end_lsn_of (length log)) connections)
-      (sym changes.log) held.sent;
+  sent = held.sent;
+  ended = held.ended;
   history_is = record {
     stands = slots_keep_it old new slots changes (transactions_of history.all) held.history_is.stands;
     idle = held.history_is.idle;
@@ -162,6 +160,7 @@ kept_events old new slots events changes keeps stays are = record {
   confirmed = subst (AreConfirmed (confirmed_after events.all)) (sym changes.slots_are)
       (λ number. stays number ∙ are.confirmed number);
   turns = are.turns;
+  within = are.within;
   dated = dated_same old new slots changes events.all are.dated;
   idle = are.idle;
 }

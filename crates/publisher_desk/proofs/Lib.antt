@@ -1,4 +1,5 @@
 pub mod Crossing
+pub mod EndedLemmas
 pub mod EventLemmas
 pub mod HeldLemmas
 pub mod KeptLemmas
@@ -7,6 +8,8 @@ pub mod OwnLemmas
 pub mod PositionLemmas
 pub mod RefusalLemmas
 pub mod SeatLemmas
+pub mod SentLemmas
+pub mod SlotsHeld
 pub mod SlotsKept
 pub mod SlotLemmas
 pub mod StepLemmas

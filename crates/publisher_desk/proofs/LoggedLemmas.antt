@@ -16,13 +16,15 @@ use Rattle.tables_log.proofs.StandLemmas.{each_is_logged, commits_add_one}
 use Rattle.publisher_desk.specs.Answers.{IsRead, IsRefusedAfter}
 use Rattle.publisher_desk.specs.Logged.{StandsIn, IsReadIn, IsNoted, AreNoted, own_numbers, RiseTo, IsSighted, IsSeatIn, AreLogged, IsHistoryOf, AreSeatsIn, Records, Looks, Refuses, IsRefused}
 use Rattle.publisher_desk.specs.Receipts.{ReceiptOf, transaction_of, transactions_of}
-use Rattle.publisher_desk.specs.Seats.{SeatOf, note_number, highest}
+use Rattle.publisher_desk.specs.Seats.{SeatOf, SeesOn, note_number, highest}
 use Rattle.publisher_desk.specs.Sights.{HasWholeLog, Sees, StartsWith, sight, times, view_of}
+use Rattle.publisher_desk.specs.SlotSights.{BeginsWith}
 use Rattle.publisher_desk.specs.declared.note.Note.{Note}
 use Rattle.publisher_desk.specs.declared.note.Note.TheVariants.{Committed, Looked}
 use Rattle.publisher_desk.specs.declared.note.Reading.{Reading}
 use Rattle.publisher_desk.specs.declared.sight.Sight.{Sight}
 use Rattle.publisher_desk.specs.declared.sight.HistoryView.{HistoryView}
+use Rattle.publisher_desk.specs.declared.slot_event.SlotEvent.{SlotEvent}
 
 -- ---- a longer log
 
@@ -219,20 +221,31 @@ begins_recorded receipt old new records =
     )
 
 -- and so it is by what contracts see of the seat before
-module _ (before : SeatOf) (notes : List Note) (old new : Sight)
-    (is : record { notes = notes; seen = old.seen } ≡ before) where
-  begins_as : StartsWith new.seen old.seen → StartsWith new.seen before.seen
-  begins_as = subst (λ (seat : SeatOf). StartsWith new.seen seat.seen) is
+module _ (before : SeatOf) (notes later : List Note) (old new : Sight) (events more : List SlotEvent)
+    (is : record { notes = notes; seen = old.seen; events = events } ≡ before) where
+  begins_as : StartsWith new.seen old.seen → BeginsWith more events
+      → SeesOn before (record { notes = later; seen = new.seen; events = more })
+  begins_as log slots =
+      subst (λ (seat : SeatOf). SeesOn seat (record { notes = later; seen = new.seen; events = more })) is
+      (record { log = log; slots = slots })
 
-  pub seen_begins : (log : List ReceiptOf) → Sees log old new → StartsWith new.seen before.seen
-  seen_begins log sees = begins_as (begins_seen log old new sees)
+  pub seen_begins : (log : List ReceiptOf) → Sees log old new → BeginsWith more events
+      → SeesOn before (record { notes = later; seen = new.seen; events = more })
+  seen_begins log sees slots = begins_as (begins_seen log old new sees) slots
 
-  pub recorded_begins : (receipt : ReceiptOf) → Records receipt old new → StartsWith new.seen before.seen
-  recorded_begins receipt records = begins_as (begins_recorded receipt old new records)
+  pub recorded_begins : (receipt : ReceiptOf) → Records receipt old new → BeginsWith more events
+      → SeesOn before (record { notes = later; seen = new.seen; events = more })
+  recorded_begins receipt records slots = begins_as (begins_recorded receipt old new records) slots
 
-pub same_begins : (before : SeatOf) (notes : List Note) (old : Sight)
-    → record { notes = notes; seen = old.seen } ≡ before → StartsWith old.seen before.seen
-same_begins before notes old is = subst (λ (seat : SeatOf). StartsWith old.seen seat.seen) is (begins_same old.seen)
+-- the same events
+pub no_events : (events : List SlotEvent) → BeginsWith events events
+no_events events = ([], sym (append-nil events))
+
+pub same_begins : (before : SeatOf) (notes later : List Note) (old : Sight) (events : List SlotEvent)
+    → record { notes = notes; seen = old.seen; events = events } ≡ before
+    → SeesOn before (record { notes = later; seen = old.seen; events = events })
+same_begins before notes later old events is =
+    begins_as before notes later old old events events is (begins_same old.seen) (no_events events)
 
 -- ---- refusals
 
@@ -244,9 +257,9 @@ module _ (checked : CheckedOf) (limit : ℕ) (notes : List Note) (commands : Lis
       subst (λ (list : List Note). IsSighted (setting_in checked) list new) (sym same)
       (seen_sighted (setting_in checked) notes old new sighted refuses.log refuses.sees)
 
-  pub refusal_noted : (roomy : List Note) → roomy ≡ notes
-      → IsRefused checked limit (record { notes = roomy; seen = new.seen }) commands error
-  refusal_noted roomy same known =
+  pub refusal_noted : (roomy : List Note) (events : List SlotEvent) → roomy ≡ notes
+      → IsRefused checked limit (record { notes = roomy; seen = new.seen; events = events }) commands error
+  refusal_noted roomy events same known =
       let seen = sym refuses.sees.seen in
       record {
         accepted = subst (λ (log : List ReceiptOf). AreAccepted (setting_in checked) no_rows (transactions_of log)) seen
@@ -324,15 +337,15 @@ none_logged setting log seats none told = subst (AreLogged setting log) (sym non
 })
 
 pub more_logged : (setting : Setting) (log lent : HistoryView) (notes : List Note) (seats all : List SeatOf) (one : Sight)
-    → lent ≡ view_of true log.all (one ∷ log.sights) → all ≡ record { notes = notes; seen = one.seen } ∷ seats
-    → IsSighted setting notes one → AreLogged setting lent seats → AreLogged setting log all
-more_logged setting log lent notes seats all one lent_is all_is sighted rest =
+    (events : List SlotEvent) → lent ≡ view_of true log.all (one ∷ log.sights)
+    → all ≡ record { notes = notes; seen = one.seen; events = events } ∷ seats → IsSighted setting notes one → AreLogged setting lent seats → AreLogged setting log all
+more_logged setting log lent notes seats all one events lent_is all_is sighted rest =
     let logged : AreLogged setting (view_of true log.all (one ∷ log.sights)) seats =
     subst (λ (view : HistoryView). AreLogged setting view seats) lent_is rest in
     let longer = length_begins log.all one.seen logged.seen.0 in
     subst (AreLogged setting log) (sym all_is) (record {
       seen = logged.seen.1;
-      each = all_first (IsSeatIn setting log.all) (record { notes = notes; seen = one.seen }) seats (record {
+      each = all_first (IsSeatIn setting log.all) (record { notes = notes; seen = one.seen; events = events }) seats (record {
         begins = logged.seen.0;
         noted = noted_begins setting log.all one.seen notes logged.seen.0 sighted.noted;
         rising = subst (λ (list : List ℕ). RiseTo (length log.all) 0 list) sighted.own

@@ -7,10 +7,11 @@ use lib.ListN.{get_elem?}
 use Rattle.publisher_desk.specs.SlotEvents.{acquisitions}
 use Rattle.publisher_desk.specs.SlotSights.{added_in, given, joined, left, nobody, only_in, owned_by, owned_in, rest_in, shown_in}
 use Rattle.publisher_desk.specs.declared.slot_event.Acquisition.{Acquisition}
+use Rattle.publisher_desk.specs.declared.slot_event.Advance.{Advance}
 use Rattle.publisher_desk.specs.declared.slot_event.Confirmation.{Confirmation}
 use Rattle.publisher_desk.specs.declared.slot_event.Release.{Release}
 use Rattle.publisher_desk.specs.declared.slot_event.SlotEvent.{SlotEvent}
-use Rattle.publisher_desk.specs.declared.slot_event.SlotEvent.TheVariants.{Acquired, Confirmed, Released}
+use Rattle.publisher_desk.specs.declared.slot_event.SlotEvent.TheVariants.{Acquired, Advanced, Confirmed, Released}
 use Rattle.publisher_desk.specs.declared.slot_sight.SlotSight.{SlotSight}
 use Rattle.publisher_desk.specs.declared.slot_sight.SlotView.{SlotView}
 use Rattle.publisher_desk.proofs.KeptLemmas.{only, only_else, only_here, times_append}
@@ -21,12 +22,17 @@ acquisitions_append : (events more : List SlotEvent)
     → acquisitions (events ++ more) ≡ acquisitions events + acquisitions more
 acquisitions_append [] more = omega arith
 acquisitions_append (Acquired one ∷ events) more = let rest = acquisitions_append events more in omega (arith, rest)
+acquisitions_append (Advanced one ∷ events) more = acquisitions_append events more
 acquisitions_append (Confirmed one ∷ events) more = acquisitions_append events more
 acquisitions_append (Released one ∷ events) more = acquisitions_append events more
 
 pub acquired_count : (events : List SlotEvent) (one : Acquisition)
     → acquisitions (events ++ Acquired one ∷ []) ≡ acquisitions events + 1
 acquired_count events one = acquisitions_append events (Acquired one ∷ [])
+
+pub advanced_count : (events : List SlotEvent) (one : Advance)
+    → acquisitions (events ++ Advanced one ∷ []) ≡ acquisitions events
+advanced_count events one = let all = acquisitions_append events (Advanced one ∷ []) in omega (arith, all)
 
 pub confirmed_count : (events : List SlotEvent) (one : Confirmation)
     → acquisitions (events ++ Confirmed one ∷ []) ≡ acquisitions events
@@ -71,6 +77,7 @@ shown_owned n all (one ∷ sights) = refl
 -- whether the event is the acquisition of this number
 abbrev pub newly : ℕ → SlotEvent → ℕ → ℕ
 newly n (Acquired one) count = only (count + 1) n
+newly n (Advanced one) count = 0
 newly n (Confirmed one) count = 0
 newly n (Released one) count = 0
 
@@ -79,6 +86,7 @@ pub added_owned : (n : ℕ) (all : List SlotEvent) (event : SlotEvent) (sights :
 added_owned n all event [] = omega arith
 added_owned n all (Acquired one) (first ∷ sights) =
     let more = times_append n first.own ((acquisitions all + 1) ∷ []) in omega (arith, more)
+added_owned n all (Advanced one) (first ∷ sights) = omega arith
 added_owned n all (Confirmed one) (first ∷ sights) = omega arith
 added_owned n all (Released one) (first ∷ sights) = omega arith
 
@@ -88,6 +96,7 @@ pub newly_single : (n : ℕ) (event : SlotEvent) (count owned : ℕ) → (count 
 newly_single n (Acquired one) count owned low single = dite (ℕ_discrete (count + 1) n)
     (λ here. let new = only_here (count + 1) n here in let none = low (omega (arith, here)) in omega (arith, new, none))
     (λ apart. let old = only_else (count + 1) n apart in omega (arith, old, single))
+newly_single n (Advanced one) count owned low single = omega (arith, single)
 newly_single n (Confirmed one) count owned low single = omega (arith, single)
 newly_single n (Released one) count owned low single = omega (arith, single)
 
@@ -99,6 +108,8 @@ newly_low n (Acquired one) all owned low above =
     let count = acquired_count all one in
     let old = only_else (acquisitions all + 1) n (λ here. omega (arith, here, above, count)) in
     let none = low (omega (arith, above, count)) in omega (arith, old, none)
+newly_low n (Advanced one) all owned low above =
+    let count = advanced_count all one in let none = low (omega (arith, above, count)) in omega (arith, none)
 newly_low n (Confirmed one) all owned low above =
     let count = confirmed_count all one in let none = low (omega (arith, above, count)) in omega (arith, none)
 newly_low n (Released one) all owned low above =

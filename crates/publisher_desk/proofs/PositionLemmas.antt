@@ -1,4 +1,4 @@
--- Up to where slots are confirmed in a new book, and after a stream acquires or releases one.
+-- Up to where slots are confirmed, and clients were sent the log, at first and after a stream acquires or releases a slot.
 use Rattle.std.proofs.Common.{◌≡◌, ℕ, zero, suc, List, length, Bool, true, false, refl, sym, ap, ◌∙◌}
 use Rattle.std.specs.Prelude.{Option, Some, None, slice_get, slice_set, replicate}
 use Rattle.std.proofs.lemmas.Option.{slice_get_within}
@@ -11,6 +11,8 @@ use Rattle.tables_log.specs.Slots.{changed, confirmed_at, confirmed_of, released
 use Rattle.tables_log.specs.declared.book.Book.{Book}
 use Rattle.tables_log.specs.declared.slots.Slot.{Slot}
 use Rattle.tables_log.proofs.PlaceLemmas.{get_set_beside, get_set_here}
+use Rattle.publisher_desk.specs.SlotEvents.{sent_at}
+use Rattle.publisher_desk.specs.declared.connection_state.ConnectionState.{ConnectionState}
 
 -- ---- a new book
 
@@ -24,6 +26,11 @@ pub new_unconfirmed : (book : Book) (checked : CheckedOf) (limit : ℕ) → IsNe
 new_unconfirmed book checked limit new number =
     ap (λ (slots : List Slot). confirmed_at slots number) new.slots
     ∙ unconfirmed (length checked.catalog.subscriptions) number
+
+pub new_unsent : (count : ℕ) (idle : ConnectionState) → idle.sent ≡ 0 → (slot : ℕ) → sent_at (replicate count idle) slot ≡ 0
+new_unsent zero idle unsent slot = refl
+new_unsent (suc count) idle unsent zero = unsent
+new_unsent (suc count) idle unsent (suc slot) = new_unsent count idle unsent slot
 
 -- ---- a slot that is acquired or released
 

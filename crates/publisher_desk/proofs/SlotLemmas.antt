@@ -13,7 +13,7 @@ use Rattle.publisher_desk.specs.Held.{AreEventsOf}
 use Rattle.publisher_desk.specs.Logged.{IsHistoryOf}
 use Rattle.publisher_desk.specs.Receipts.{ReceiptOf, transactions_of}
 use Rattle.publisher_desk.specs.Sights.{Sees, StartsWith, times}
-use Rattle.publisher_desk.specs.SlotEvents.{Acquires, AreConfirmed, AreDated, IsDated, acquisitions, confirmed_after, use_after, no_position, no_use}
+use Rattle.publisher_desk.specs.SlotEvents.{Acquires, AreConfirmed, AreDated, IsDated, acquisitions, advanced_after, confirmed_after, use_after, no_position, no_use}
 use Rattle.publisher_desk.specs.SlotSights.{AddsEvent, BeginsWith, HasSlot, MayHaveSlot, OwnsHeld, SeesEvents, hold, hold_with, slot_view}
 use Rattle.publisher_desk.specs.Viewers.{HadSlot, HasReleased, Holds, IsAcceptedLog, Releases, SeesLog, SeesMore, ViewerOf, log_seen, release}
 use Rattle.publisher_desk.specs.declared.sight.HistoryView.{HistoryView}
@@ -26,13 +26,14 @@ use Rattle.publisher_desk.specs.declared.slot_event.SlotEvent.TheVariants.{Acqui
 use Rattle.publisher_desk.specs.declared.slot_sight.Hold.{Hold}
 use Rattle.publisher_desk.specs.declared.slot_sight.SlotSight.{SlotSight}
 use Rattle.publisher_desk.specs.declared.slot_sight.SlotView.{SlotView}
-use Rattle.publisher_desk.proofs.EventLemmas.{acquired_has, confirmed_more, its_in_use, turn_push, use_more}
+use Rattle.publisher_desk.proofs.EventLemmas.{acquired_has, confirmed_more, its_in_use, turn_push, use_more, within_push}
 use Rattle.publisher_desk.proofs.HeldLemmas.{dated_same}
 use Rattle.publisher_desk.proofs.KeptLemmas.{times_last}
 use Rattle.publisher_desk.proofs.LoggedLemmas.{history_long}
 use Rattle.tables_log.proofs.SlotUses.{released_uses}
 use Rattle.publisher_desk.proofs.PositionLemmas.{released_stays}
-use Rattle.publisher_desk.proofs.SlotsKept.{begins_longer, held_confirmed}
+use Rattle.publisher_desk.proofs.SlotsHeld.{begins_longer}
+use Rattle.publisher_desk.proofs.SlotsKept.{held_confirmed}
 
 -- ---- the book's slots
 
@@ -61,6 +62,7 @@ released_events old new events more one dated are changes same was now adds = su
       ∙ sym (ap (λ (known : ℕ → ℕ). known number) (confirmed_more events.all (Released one)))));
   turns = turn_push no_use no_position events.all (Released one) are.turns
       (its_in_use events.all was.held one.slot adds.kept adds.may);
+  within = within_push events.all (Released one) are.within tt;
   dated = dated_push (length (book_log new)) events.all (Released one)
       (dated_same old new (released (book_slots old) one.slot) changes events.all are.dated)
       (let same_log = ap length changes.log in omega (arith, dated, same_log));
@@ -161,29 +163,32 @@ confirms_owns all one was now adds owns =
 -- ---- a release
 
 -- it was released when the log had as many commits as the connection has then seen
-pub releases_at : (slot commits : ℕ) (book : Book) (history : HistoryView) (old new : Sight) (events : List SlotEvent)
-    (was now : SlotSight) → commits ≡ length (book_log book) → IsHistoryOf book history → Sees history.all old new
-    → AddsEvent events (Released (release slot commits)) was now → Releases slot (length new.seen) was now
-releases_at slot commits book history old new events was now commits_are is sees adds = record {
+pub releases_at : (slot sent commits : ℕ) (book : Book) (history : HistoryView) (old new : Sight)
+    (events : List SlotEvent) (was now : SlotSight) → sent ≡ advanced_after events slot → commits ≡ length (book_log book)
+    → IsHistoryOf book history → Sees history.all old new → AddsEvent events (Released (release slot commits)) was now
+    → Releases slot sent (length new.seen) was now
+releases_at slot sent commits book history old new events was now sent_is commits_are is sees adds = record {
   events = events;
+  sent_is = sent_is;
   adds = subst (λ (n : ℕ). AddsEvent events (Released (release slot n)) was now)
       (commits_are ∙ history_long book history is ∙ ap (λ (log : List ReceiptOf). length log) (sym sees.seen)) adds;
 }
 
-pub releases_none : (slot commits : ℕ) (was now : SlotSight) → Releases slot commits was now
+pub releases_none : (slot sent commits : ℕ) (was now : SlotSight) → Releases slot sent commits was now
     → MayHaveSlot now.events now.held
-releases_none slot commits was now releases =
+releases_none slot sent commits was now releases =
     subst (λ (held : Option Hold). MayHaveSlot now.events held) (sym releases.adds.held) tt
 
-pub releases_owns : (slot commits : ℕ) (was now : SlotSight) → Releases slot commits was now
+pub releases_owns : (slot sent commits : ℕ) (was now : SlotSight) → Releases slot sent commits was now
     → OwnsHeld now.held now.own
-releases_owns slot commits was now releases =
+releases_owns slot sent commits was now releases =
     subst (λ (held : Option Hold). OwnsHeld held now.own) (sym releases.adds.held) tt
 
 -- the slot that it had, as events tell
-had_slot : (all now : List SlotEvent) (slot commits : ℕ) (mine : Hold) → HasSlot all mine
-    → mine.acquisition.slot ≡ slot → now ≡ all ++ Released (release slot commits) ∷ [] → HadSlot now mine commits
-had_slot all now slot commits mine has same now_is = record {
+had_slot : (all now : List SlotEvent) (slot sent commits : ℕ) (mine : Hold) → HasSlot all mine
+    → mine.acquisition.slot ≡ slot → sent ≡ advanced_after all slot → now ≡ all ++ Released (release slot commits) ∷ []
+    → HadSlot now mine sent commits
+had_slot all now slot sent commits mine has same sent_is now_is = record {
   before = has.before;
   between = has.after;
   after = [];
@@ -196,6 +201,9 @@ had_slot all now slot commits mine has same now_is = record {
   found_is = has.found_is;
   confirmed_is = has.confirmed_is
       ∙ ap (λ (list : List SlotEvent). confirmed_after list mine.acquisition.slot) has.events_are;
+  sent_is = sent_is
+      ∙ (ap (advanced_after all) (sym same)
+      ∙ ap (λ (list : List SlotEvent). advanced_after list mine.acquisition.slot) has.events_are);
 }
 
 free_then : (all now : List SlotEvent) (slot commits : ℕ) (mine : Hold) → mine.acquisition.slot ≡ slot
@@ -205,18 +213,18 @@ free_then all now slot commits mine same now_is =
     ∙ (ap (λ (used : ℕ → Bool). used mine.acquisition.slot) (use_more all (Released (release slot commits)))
     ∙ ap (λ b. cond b false (use_after all mine.acquisition.slot)) (eq-eqb mine.acquisition.slot slot same))
 
-pub has_released : (slot : ℕ) (before after : ViewerOf) (was now : SlotSight) → before.held ≡ was.held
+pub has_released : (slot sent : ℕ) (before after : ViewerOf) (was now : SlotSight) → before.held ≡ was.held
     → after.events ≡ now.events → after.held ≡ now.held → after.own ≡ now.own → Holds was.held slot
-    → OwnsHeld was.held was.own → Releases slot (length after.seen) was now → HasReleased before after
-has_released slot before after was now old_is events_are new_is own_is holds owns releases =
+    → OwnsHeld was.held was.own → Releases slot sent (length after.seen) was now → HasReleased sent before after
+has_released slot sent before after was now old_is events_are new_is own_is holds owns releases =
     let adds = releases.adds in
     let kept : HasSlot releases.events holds.mine =
     subst (MayHaveSlot releases.events) holds.held_is adds.kept in
     record {
       mine = holds.mine;
       was = old_is ∙ holds.held_is;
-      had = had_slot releases.events after.events slot (length after.seen) holds.mine kept holds.slot_is
-          (events_are ∙ adds.seen);
+      had = had_slot releases.events after.events slot sent (length after.seen) holds.mine kept holds.slot_is
+          releases.sent_is (events_are ∙ adds.seen);
       free = free_then releases.events after.events slot (length after.seen) holds.mine holds.slot_is
           (events_are ∙ adds.seen);
       none = new_is ∙ adds.held;
@@ -224,11 +232,11 @@ has_released slot before after was now old_is events_are new_is own_is holds own
           (subst (λ (held : Option Hold). OwnsHeld held was.own) holds.held_is owns);
     }
 
-pub released_more : (checked : CheckedOf) (slot commits : ℕ) (viewer : ViewerOf) (old new : Sight) (was now : SlotSight)
-    → record { seen = old.seen; events = was.events; held = was.held; own = was.own } ≡ viewer → SeesLog checked old new
-    → Releases slot commits was now
+pub released_more : (checked : CheckedOf) (slot sent commits : ℕ) (viewer : ViewerOf) (old new : Sight)
+    (was now : SlotSight) → record { seen = old.seen; events = was.events; held = was.held; own = was.own } ≡ viewer
+    → SeesLog checked old new → Releases slot sent commits was now
     → SeesMore viewer (record { seen = new.seen; events = now.events; held = now.held; own = now.own })
-released_more checked slot commits viewer old new was now viewer_is sees releases =
+released_more checked slot sent commits viewer old new was now viewer_is sees releases =
     subst (λ (v : ViewerOf). SeesMore v (record {
       seen = new.seen;
       events = now.events;

@@ -1,5 +1,5 @@
 -- Each step keeps what tokens know of the slots.
-use Rattle.std.proofs.Common.{◌≡◌, ◌≢◌, ℕ, zero, suc, ◌+◌, ◌≤◌, List, [], ◌∷◌, ◌++◌, set, Bool, true, false, true≢false, refl, sym, ap, ◌∙◌, subst, ⊎_elim, arith, append_assoc, append-nil, cond, eq-eqb, ne_eqb}
+use Rattle.std.proofs.Common.{◌≡◌, ◌≢◌, ℕ, zero, suc, ◌+◌, ◌≤◌, List, [], ◌∷◌, ◌++◌, set, Bool, true, false, true≢false, refl, sym, ap, ◌∙◌, subst, ⊎_elim, arith, cond, eq-eqb, ne_eqb}
 use Rattle.std.specs.Prelude.{Option, Some, None}
 use mathlib.Core.Option.{some, some-injective, some-ne-none}
 use mathlib.Core.Logic.{dite}
@@ -8,116 +8,18 @@ use lib.ListN.{get_elem?}
 use Rattle.atomic_table.specs.Table.{State, Me, Allows, Splits, Joins}
 use Rattle.atomic_table.specs.Table as table
 use Rattle.atomic_table.proofs.Lists.{at_set, at_snoc, set_else}
-use Rattle.publisher_desk.specs.SlotEvents.{acquisitions, confirmed_after, slot_in, use_after, use_by}
-use Rattle.publisher_desk.specs.SlotSights.{slot_view, hold, BeginsWith, MayHaveSlot, AreKnown, has_slot, held_in, held_by, hold_with, owned_by, owned_in, FitsEvents, AreSlotsKept, HasIt, begun, shown_in, shown, held_after, added_in, added, MayHappen, first_in, rest_in, only_in, left, given, joined, nobody}
+use Rattle.publisher_desk.specs.SlotEvents.{acquisitions, confirmed_after, use_after, use_by}
+use Rattle.publisher_desk.specs.SlotSights.{slot_view, hold, MayHaveSlot, AreKnown, has_slot, held_in, held_by, hold_with, owned_by, owned_in, FitsEvents, AreSlotsKept, HasIt, begun, shown, held_after, added_in, added, MayHappen, first_in, rest_in, left, given, joined, nobody}
 use Rattle.publisher_desk.specs.declared.slot_event.Acquisition.{Acquisition}
 use Rattle.publisher_desk.specs.declared.slot_event.Confirmation.{Confirmation}
 use Rattle.publisher_desk.specs.declared.slot_event.SlotEvent.{SlotEvent}
-use Rattle.publisher_desk.specs.declared.slot_event.SlotEvent.TheVariants.{Acquired, Confirmed, Released}
+use Rattle.publisher_desk.specs.declared.slot_event.SlotEvent.TheVariants.{Acquired, Advanced, Confirmed, Released}
 use Rattle.publisher_desk.specs.declared.slot_sight.Hold.{Hold}
 use Rattle.publisher_desk.specs.declared.slot_sight.SlotSight.{SlotSight}
 use Rattle.publisher_desk.specs.declared.slot_sight.SlotView.{SlotView}
-use Rattle.publisher_desk.proofs.EventLemmas.{acquired_has, confirmed_has, stays_held, use_more}
+use Rattle.publisher_desk.proofs.EventLemmas.{acquired_has, confirmed_has, use_more}
 use Rattle.publisher_desk.proofs.OwnLemmas.{added_owned, cuts_owned, joins_owned, newly, newly_low, newly_single, owned_one, owned_set, shown_owned}
-
--- ---- which views have a slot
-
-has_here : (slot : ℕ) (held : Hold) → held.acquisition.slot ≡ slot → has_slot slot (Some held) ≡ 1
-has_here slot held same = ap (λ b. cond b 1 0) (eq-eqb held.acquisition.slot slot same)
-
-has_else : (slot : ℕ) (held : Hold) → held.acquisition.slot ≢ slot → has_slot slot (Some held) ≡ 0
-has_else slot held apart = ap (λ b. cond b 1 0) (ne_eqb held.acquisition.slot slot apart)
-
-held_in_append : (slot : ℕ) (sights more : List SlotSight)
-    → held_in slot (sights ++ more) ≡ held_in slot sights + held_in slot more
-held_in_append slot [] more = omega arith
-held_in_append slot (one ∷ sights) more = let rest = held_in_append slot sights more in omega (arith, rest)
-
-held_append : (slot : ℕ) (views more : List SlotView)
-    → held_by slot (views ++ more) ≡ held_by slot views + held_by slot more
-held_append slot [] more = omega arith
-held_append slot (view ∷ views) more = let rest = held_append slot views more in omega (arith, rest)
-
-held_set : (slot : ℕ) (views : List SlotView) (by : ℕ) (v w : SlotView) → get_elem? views by ≡ some v
-    → held_by slot (set views by w) + held_in slot v.sights ≡ held_by slot views + held_in slot w.sights
-held_set slot [] by v w at = absurd (some-ne-none v (sym at))
-held_set slot (view ∷ views) zero v w at =
-    let same = ap (λ (u : SlotView). held_in slot u.sights) (some-injective view v at) in omega (arith, same)
-held_set slot (view ∷ views) (suc by) v w at = let rest = held_set slot views by v w at in omega (arith, rest)
-
-held_one : (slot : ℕ) (views : List SlotView) (by : ℕ) (v : SlotView) → get_elem? views by ≡ some v
-    → held_in slot v.sights ≤ held_by slot views
-held_one slot [] by v at = absurd (some-ne-none v (sym at))
-held_one slot (view ∷ views) zero v at =
-    let same = ap (λ (u : SlotView). held_in slot u.sights) (some-injective view v at) in omega (arith, same)
-held_one slot (view ∷ views) (suc by) v at = let rest = held_one slot views by v at in omega (arith, rest)
-
--- two views have no slot in common
-held_two : (slot : ℕ) (views : List SlotView) (i j : ℕ) (v w : SlotView) → i ≢ j → get_elem? views i ≡ some v
-    → get_elem? views j ≡ some w → held_in slot v.sights + held_in slot w.sights ≤ held_by slot views
-held_two slot [] i j v w apart at there = absurd (some-ne-none v (sym at))
-held_two slot (view ∷ views) zero zero v w apart at there = absurd (apart refl)
-held_two slot (view ∷ views) zero (suc j) v w apart at there =
-    let same = ap (λ (u : SlotView). held_in slot u.sights) (some-injective view v at) in
-    let rest = held_one slot views j w there in omega (arith, same, rest)
-held_two slot (view ∷ views) (suc i) zero v w apart at there =
-    let same = ap (λ (u : SlotView). held_in slot u.sights) (some-injective view w there) in
-    let rest = held_one slot views i v at in omega (arith, same, rest)
-held_two slot (view ∷ views) (suc i) (suc j) v w apart at there =
-    let rest = held_two slot views i j v w (λ same. apart (ap suc same)) at there in omega (arith, rest)
-
--- ---- beginnings
-
-pub begins_longer : (all more events : List SlotEvent) → BeginsWith all events → BeginsWith (all ++ more) events
-begins_longer all more events begins =
-    (begins.0 ++ more, ap (λ (list : List SlotEvent). list ++ more) begins.1 ∙ append_assoc events begins.0 more)
-
-begins_whole : (all events : List SlotEvent) → events ≡ all → BeginsWith all events
-begins_whole all events same = ([], sym same ∙ sym (append-nil events))
-
--- an event of another slot leaves it
-may_stay : (all : List SlotEvent) (event : SlotEvent) (held : Option Hold) → has_slot (slot_in event) held ≡ 0
-    → MayHaveSlot all held → MayHaveSlot (all ++ event ∷ []) held
-may_stay all event None none has = tt
-may_stay all event (Some held) none has = stays_held all event held has
-    (λ same. let one = has_here (slot_in event) held (sym same) in omega (arith, one, none))
-
-known_longer : (all : List SlotEvent) (event : SlotEvent) (sights : List SlotSight)
-    → held_in (slot_in event) sights ≡ 0 → AreKnown all sights → AreKnown (all ++ event ∷ []) sights
-known_longer all event [] none known = tt
-known_longer all event (one ∷ sights) none known = (
-  begins_longer all (event ∷ []) one.events known.0,
-  may_stay all event one.held (omega (arith, none)) known.1,
-  known_longer all event sights (omega (arith, none)) known.2,
-)
-
-known_append : (all : List SlotEvent) (sights more : List SlotSight) → AreKnown all sights → AreKnown all more
-    → AreKnown all (sights ++ more)
-known_append all [] more known other = other
-known_append all (one ∷ sights) more known other = (known.0, known.1, known_append all sights more known.2 other)
-
-shown_known : (log all : List SlotEvent) (sights : List SlotSight) → all ≡ log → AreKnown log sights
-    → AreKnown log (shown_in all sights)
-shown_known log all [] same known = tt
-shown_known log all (one ∷ sights) same known = (begins_whole log all same, known.1, known.2)
-
-shown_held : (slot : ℕ) (all : List SlotEvent) (sights : List SlotSight)
-    → held_in slot (shown_in all sights) ≡ held_in slot sights
-shown_held slot all [] = refl
-shown_held slot all (one ∷ sights) = refl
-
-rest_known : (all : List SlotEvent) (sights : List SlotSight) → AreKnown all sights → AreKnown all (rest_in sights)
-rest_known all [] known = tt
-rest_known all (one ∷ sights) known = known.2
-
-only_known : (all : List SlotEvent) (sights : List SlotSight) → AreKnown all sights → AreKnown all (only_in sights)
-only_known all [] known = tt
-only_known all (one ∷ sights) known = (known.0, known.1, tt)
-
-cut_held : (slot : ℕ) (sights : List SlotSight)
-    → held_in slot sights ≡ held_in slot (only_in sights) + held_in slot (rest_in sights)
-cut_held slot [] = refl
-cut_held slot (one ∷ sights) = omega arith
+use Rattle.publisher_desk.proofs.SlotsHeld.{Spares, advanced_stay, begins_whole, cut_held, has_else, has_here, held_append, held_in_append, held_one, held_set, held_two, known_append, known_longer, only_known, rest_known, shown_held, shown_known}
 
 -- ---- an event
 
@@ -145,6 +47,7 @@ held_confirmed all one (Some mine) has (it, same, slot) =
 after_event : (all : List SlotEvent) (event : SlotEvent) (held : Option Hold) → MayHaveSlot all held
     → MayHappen event all held → MayHaveSlot (all ++ event ∷ []) (held_after event all held)
 after_event all (Acquired one) held has may = acquired_has all one may
+after_event all (Advanced one) held has may = advanced_stay all one held has
 after_event all (Confirmed one) held has may = held_confirmed all one held has may
 after_event all (Released one) held has may = tt
 
@@ -155,7 +58,7 @@ confirmed_slot slot position (Some mine) = refl
 
 added_known : (log all : List SlotEvent) (event : SlotEvent) (sights : List SlotSight) → all ≡ log
     → MayHaveSlot (log ++ event ∷ []) (held_after event all (first_in sights).held)
-    → others (slot_in event) sights ≡ 0
+    → Spares event (λ slot. others slot sights)
     → AreKnown log sights → AreKnown (log ++ event ∷ []) (added_in all event sights)
 added_known log all event [] same has none known = tt
 added_known log all event (one ∷ sights) same has none known = (
@@ -250,17 +153,19 @@ module _ (views : List SlotView) (kept : AreSlotsKept views) (by : ℕ) (v : Slo
         let split = split_first slot v.sights in omega (arith, mine, once, both, split)
 
     -- so it is of the slot of the event
-    no_rest : (e : SlotEvent) → MayHappen e v.all (first_in v.sights).held → others (slot_in e) v.sights ≡ 0
+    no_rest : (e : SlotEvent) → MayHappen e v.all (first_in v.sights).held → Spares e (λ slot. others slot v.sights)
     no_rest (Acquired one) free =
         let all = unused one free in let some = held_one one.slot views by v at in
         let split = split_first one.slot v.sights in omega (arith, all, some, split)
+    no_rest (Advanced one) may' = tt
     no_rest (Confirmed one) has = rest_of one.slot has
     no_rest (Released one) has = rest_of one.slot has
 
     no_other : (e : SlotEvent) → MayHappen e v.all (first_in v.sights).held → (j : ℕ) (u : SlotView) → j ≢ by
-        → get_elem? views j ≡ some u → held_in (slot_in e) u.sights ≡ 0
+        → get_elem? views j ≡ some u → Spares e (λ slot. held_in slot u.sights)
     no_other (Acquired one) free j u apart there =
         let all = unused one free in let some = held_one one.slot views j u there in omega (arith, all, some)
+    no_other (Advanced one) may' j u apart there = tt
     no_other (Confirmed one) has j u apart there = other_of one.slot has j u apart there
     no_other (Released one) has j u apart there = other_of one.slot has j u apart there
 
@@ -320,6 +225,8 @@ module _ (views : List SlotView) (kept : AreSlotsKept views) (by : ℕ) (v : Slo
         omega (arith, change, mine, none, split))
         (λ apart. let mine = has_else slot (newly_held one) apart in
         omega (arith, change, mine, before, split))
+    once_by (Advanced other) may' slot count change =
+        let before = kept.once slot in let split = split_first slot v.sights in omega (arith, change, before, split)
     once_by (Confirmed other) has slot count change =
         let before = kept.once slot in let split = split_first slot v.sights in
         let same = confirmed_slot slot other.position (first_in v.sights).held in
@@ -341,6 +248,9 @@ module _ (views : List SlotView) (kept : AreSlotsKept views) (by : ℕ) (v : Slo
         let still = sym (ap (λ b. cond b true (use_after kept.all slot)) (ne_eqb slot one.slot (λ same. apart (sym same))))
         ∙ unused_then in
         let none = kept.free slot still in omega (arith, change, mine, none, split))
+    free_by (Advanced other) may' slot count unused_then change =
+        let none = kept.free slot unused_then in let split = split_first slot v.sights in
+        omega (arith, change, none, split)
     free_by (Confirmed other) has slot count unused_then change =
         let none = kept.free slot unused_then in let split = split_first slot v.sights in
         let same = confirmed_slot slot other.position (first_in v.sights).held in

@@ -1,6 +1,6 @@
 -- What a step tells of the log.
 use Rattle.std.proofs.Common.{◌≡◌, ℕ, zero, suc, ◌+◌, ◌-◌, ◌<◌, ◌≤◌, Bool, true, false, List, [], ◌∷◌, length, map, take, drop, refl, sym, ◌∙◌, ap, subst, arith}
-use Rattle.std.specs.Prelude.{not, cond, ◌==◌, slice_get, Option, Some, None, IfSome}
+use Rattle.std.specs.Prelude.{not, cond, ◌==◌, slice_get, Option, Some, None, IfNone, IfSome}
 use Rattle.std.specs.List.{take_while}
 use Rattle.std.proofs.lemmas.List.{length-map}
 use Rattle.std.proofs.lemmas.List.Sums.{take_while-cons}
@@ -10,8 +10,13 @@ use Rattle.row_owners.specs.Owners.{concerns}
 use Rattle.table_changes.proofs.TableLemmas.{some_is}
 use Rattle.tables_log.specs.Commits.{CommitOf}
 use Rattle.tables_log.specs.Logs.{entry_at}
+use Rattle.tables_log.specs.Lsn.{end_lsn_of}
 use Rattle.tables_log.specs.Routes.{ArePassed, passed_over}
 use Rattle.tables_log.proofs.PlaceLemmas.{number_is}
+use Rattle.publisher_desk.specs.Lending.{IsGiven, commits_in}
+use Rattle.publisher_desk.specs.SlotEvents.{advanced_after}
+use Rattle.publisher_desk.specs.declared.slot_event.SlotEvent.{SlotEvent}
+use Rattle.publisher_desk.specs.declared.step.SenderStep.{SenderStep}
 
 -- ---- where nothing is passed over, the subscriber gets something of the next commit
 
@@ -141,3 +146,13 @@ module _ {X : Type 0} (view : X → CommitOf) (plan : PlanOf) (slot number room 
 
   pub last_within : shown ≤ room
   last_within = let passed = passed_last in omega (arith, passed.0, passed.1, few)
+
+-- ---- what the sender was given
+
+-- up to the last commit of a step, if it has any
+pub given_by : (slot number : ℕ) (last : Option ℕ) (events : List SlotEvent) (step : SenderStep)
+    → IfSome last (λ found. found + 1 ≡ number + commits_in step) → IfNone last (commits_in step ≡ 0)
+    → IfSome last (λ found. end_lsn_of found ≤ advanced_after events slot) → IsGiven slot number events step
+given_by slot number None events step some none given more = absurd (omega (arith, none, more))
+given_by slot number (Some found) events step some none given more =
+    omega (arith, some, more, given)

@@ -12,9 +12,9 @@ use Rattle.tables_log.specs.declared.slots.Slot.{Slot}
 use Rattle.publisher_desk.specs.Held.{AreEventsOf}
 use Rattle.publisher_desk.specs.Receipts.{transactions_of}
 use Rattle.publisher_desk.specs.Sights.{StartsWith}
-use Rattle.publisher_desk.specs.SlotEvents.{AreConfirmed, AreDated, AreInTurn, MayAcquire, MayConfirm, acquisitions, confirmed_after, events_then, events_with, no_position, no_use, use_after}
+use Rattle.publisher_desk.specs.SlotEvents.{AreConfirmed, AreDated, AreInTurn, AreSent, AreWithinReach, MayAcquire, MayConfirm, acquisitions, advanced_after, confirmed_after, events_then, events_with, no_position, no_use, use_after}
 use Rattle.publisher_desk.specs.SlotSights.{BeginsWith, HasIt, MayHappen, MayHaveSlot, OwnsHeld, hold, hold_with, slot_view}
-use Rattle.publisher_desk.specs.Viewers.{AcquiresSight, ChangesSight, ConfirmsSight, HoldsIf, IsAcceptedLog, IsUsed, IsUsedIf, IsStreamed, IsStreamedIf, MayNote, SeesMore, ViewerOf, held_with, hold_at}
+use Rattle.publisher_desk.specs.Viewers.{AcquiresSight, ChangesSight, ConfirmsSight, HoldsFor, HoldsIf, IsAcceptedLog, IsUsed, IsUsedIf, IsStreamed, IsStreamedIf, MayNote, SeesMore, ViewerOf, held_with, hold_at}
 use Rattle.publisher_desk.specs.declared.connection_state.ConnectionState.{ConnectionState}
 use Rattle.publisher_desk.specs.declared.sight.Sight.{Sight}
 use Rattle.publisher_desk.specs.declared.slot_event.Acquisition.{Acquisition}
@@ -24,8 +24,10 @@ use Rattle.publisher_desk.specs.declared.slot_event.SlotEvent.TheVariants.{Acqui
 use Rattle.publisher_desk.specs.declared.slot_sight.Hold.{Hold}
 use Rattle.publisher_desk.specs.declared.slot_sight.SlotSight.{SlotSight}
 use Rattle.publisher_desk.specs.declared.slot_sight.SlotView.{SlotView}
-use Rattle.publisher_desk.proofs.EventLemmas.{confirmed_more, its_in_use, turn_push, use_more}
+use Rattle.publisher_desk.proofs.EventLemmas.{confirmed_more, its_in_use, turn_push, use_more, within_push}
 use Rattle.publisher_desk.proofs.HeldLemmas.{dated_same}
+use Rattle.publisher_desk.proofs.SentLemmas.{confirmed_within}
+use Rattle.table_changes.proofs.TableLemmas.{some_is}
 use Rattle.publisher_desk.proofs.SlotLemmas.{acquires_has, acquires_owns, adds_more_events, confirms_has, confirms_owns, dated_push, sees_has, sees_more_events, sees_more_log, sees_owns, shown_accepted, was_free}
 
 -- ---- the events, and the book's slots
@@ -48,13 +50,14 @@ positions_acquired : (acquired : Option Acquisition) (events : List SlotEvent)
 positions_acquired None events = refl
 positions_acquired (Some one) events = confirmed_more events (Acquired one)
 
-pub positions_confirmed : (old new : List Slot) (slot : Option ℕ) (acquired : Option Acquisition)
-    (confirmed : Option Confirmation) (events : List SlotEvent) → MayConfirm slot acquired confirmed old new
+pub positions_confirmed : (old new : List Slot) (stream : Option (ℕ × ℕ)) (acquired : Option Acquisition)
+    (confirmed : Option Confirmation) (connections : List ConnectionState) (events : List SlotEvent)
+    → MayConfirm stream acquired confirmed connections old new
     → AreConfirmed (confirmed_after events) old
     → AreConfirmed (confirmed_after (events_then confirmed (events_with acquired events))) new
-positions_confirmed old new slot acquired None events may are number =
+positions_confirmed old new stream acquired None connections events may are number =
     may number ∙ (are number ∙ sym (ap (λ (known : ℕ → ℕ). known number) (positions_acquired acquired events)))
-positions_confirmed old new slot acquired (Some one) events may are number =
+positions_confirmed old new stream acquired (Some one) connections events may are number =
     let same : confirmed_at old number ≡ confirmed_after (events_with acquired events) number =
     are number ∙ sym (ap (λ (known : ℕ → ℕ). known number) (positions_acquired acquired events)) in
     may.positions number
@@ -79,14 +82,14 @@ turns_acquired None events was between sees turns = turns
 turns_acquired (Some one) events was between adds turns =
     turn_push no_use no_position events (Acquired one) turns adds.may
 
-turns_confirmed : (old new : List Slot) (slot : Option ℕ) (acquired : Option Acquisition)
-    (confirmed : Option Confirmation) (events : List SlotEvent) (between now : SlotSight)
-    → MayConfirm slot acquired confirmed old new → AreConfirmed (confirmed_after events) old
+turns_confirmed : (old new : List Slot) (stream : Option (ℕ × ℕ)) (acquired : Option Acquisition)
+    (confirmed : Option Confirmation) (connections : List ConnectionState) (events : List SlotEvent)
+    (between now : SlotSight) → MayConfirm stream acquired confirmed connections old new → AreConfirmed (confirmed_after events) old
     → ConfirmsSight confirmed (events_with acquired events) between now
     → AreInTurn no_use no_position (events_with acquired events)
     → AreInTurn no_use no_position (events_then confirmed (events_with acquired events))
-turns_confirmed old new slot acquired None events between now may are same turns = turns
-turns_confirmed old new slot acquired (Some one) events between now may are adds turns =
+turns_confirmed old new stream acquired None connections events between now may are same turns = turns
+turns_confirmed old new stream acquired (Some one) connections events between now may are adds turns =
     let was : confirmed_at old one.slot ≡ confirmed_after (events_with acquired events) one.slot =
     are one.slot ∙ sym (ap (λ (known : ℕ → ℕ). known one.slot) (positions_acquired acquired events)) in
     turn_push no_use no_position (events_with acquired events) (Confirmed one) turns (
@@ -94,22 +97,57 @@ turns_confirmed old new slot acquired (Some one) events between now may are adds
       subst (λ (n : ℕ). n ≤ one.position) was may.rises,
     )
 
-pub streamed_events : (old new : Book) (events more : SlotView) (slot : Option ℕ) (acquired : Option Acquisition)
-    (confirmed : Option Confirmation) → AreEventsOf old events → ChangesSlots old new (book_slots new)
+acquired_kept : (acquired : Option Acquisition) (all : List SlotEvent) (was between : SlotSight)
+    → AcquiresSight acquired all was between → MayHaveSlot all was.held
+acquired_kept None all was between sees = sees.kept
+acquired_kept (Some one) all was between adds = adds.kept
+
+-- what was confirmed for a slot before
+was_confirmed : (old : List Slot) (acquired : Option Acquisition) (events : List SlotEvent)
+    → AreConfirmed (confirmed_after events) old → (slot : ℕ)
+    → confirmed_at old slot ≡ confirmed_after (events_with acquired events) slot
+was_confirmed old acquired events are slot =
+    are slot ∙ sym (ap (λ (known : ℕ → ℕ). known slot) (positions_acquired acquired events))
+
+within_acquired : (acquired : Option Acquisition) (events : List SlotEvent) → AreWithinReach [] events
+    → AreWithinReach [] (events_with acquired events)
+within_acquired None events within = within
+within_acquired (Some one) events within = within_push events (Acquired one) within tt
+
+within_confirmed : (old new : List Slot) (stream : Option (ℕ × ℕ)) (acquired : Option Acquisition)
+    (confirmed : Option Confirmation) (connections : List ConnectionState) (events : List SlotEvent)
+    (held : Option Hold) → MayConfirm stream acquired confirmed connections old new
+    → AreConfirmed (confirmed_after events) old → AreSent (advanced_after events) connections → HoldsIf held stream
+    → MayHaveSlot events held → AreWithinReach [] (events_with acquired events)
+    → AreWithinReach [] (events_then confirmed (events_with acquired events))
+within_confirmed old new stream acquired None connections events held may are sent holds has within = within
+within_confirmed old new stream acquired (Some one) connections events held may are sent holds has within =
+    within_push (events_with acquired events) (Confirmed one) within
+    (confirmed_within old new connections stream acquired one events held may sent holds has
+    (was_confirmed old acquired events are one.slot))
+
+pub streamed_events : (old new : Book) (events more : SlotView) (stream : Option (ℕ × ℕ)) (acquired : Option Acquisition)
+    (confirmed : Option Confirmation) (connections : List ConnectionState) → AreEventsOf old events → ChangesSlots old new (book_slots new)
     → MayAcquire (book_slots old) (book_slots new) acquired
-    → MayConfirm slot acquired confirmed (book_slots old) (book_slots new)
+    → MayConfirm stream acquired confirmed connections (book_slots old) (book_slots new)
+    → AreSent (advanced_after events.all) connections
     → more ≡ slot_view true (events_then confirmed (events_with acquired events.all)) [] → (was now : SlotSight)
-    → ChangesSight acquired confirmed events.all was now → AreEventsOf new more
-streamed_events old new events more slot acquired confirmed are changes takes confirms same was now sight =
+    → HoldsIf was.held stream → ChangesSight acquired confirmed events.all was now → AreEventsOf new more
+streamed_events old new events more stream acquired confirmed connections are changes takes confirms sent same was now
+    holds sight =
     let then : List SlotEvent = events_with acquired events.all in
     subst (AreEventsOf new) (sym same) (record {
       used = subst (λ (test : ℕ → Bool). AreInUse test (book_slots new)) (sym (use_confirmed confirmed then))
           (use_acquired (book_slots old) (book_slots new) acquired events.all takes are.used);
-      confirmed = positions_confirmed (book_slots old) (book_slots new) slot acquired confirmed events.all confirms
-          are.confirmed;
-      turns = turns_confirmed (book_slots old) (book_slots new) slot acquired confirmed events.all sight.between now
-          confirms are.confirmed sight.confirms
+      confirmed = positions_confirmed (book_slots old) (book_slots new) stream acquired confirmed connections events.all
+          confirms are.confirmed;
+      turns = turns_confirmed (book_slots old) (book_slots new) stream acquired confirmed connections events.all
+          sight.between now confirms are.confirmed sight.confirms
           (turns_acquired acquired events.all was sight.between sight.acquires are.turns);
+      within = within_confirmed (book_slots old) (book_slots new) stream acquired confirmed connections events.all
+          was.held confirms are.confirmed sent holds
+          (acquired_kept acquired events.all was sight.between sight.acquires)
+          (within_acquired acquired events.all are.within);
       dated = dated_confirmed (length (book_log new)) confirmed then
           (dated_acquired (length (book_log new)) acquired events.all
           (dated_same old new (book_slots new) changes events.all are.dated));
@@ -124,13 +162,15 @@ may_acquire book events new acquired held are may one some =
     was_free book events new one are (subst (MayAcquire (book_slots book) new) some may)
 
 -- what is confirmed is for the slot that the connection has
-pub may_note : (old new : List Slot) (slot : Option ℕ) (acquired : Option Acquisition)
-    (confirmed : Option Confirmation) (held : Option Hold) → HoldsIf held slot
-    → MayConfirm slot acquired confirmed old new → MayNote acquired confirmed held
-may_note old new slot acquired None held holds may = tt
-may_note old new slot None (Some one) held holds may = subst (HoldsIf held) may.mine holds
-may_note old new slot (Some it) (Some one) held holds may =
-    let same : ◌≡◌ {A = Option ℕ} (Some it.slot) (Some one.slot) = may.mine in cc
+pub may_note : (old new : List Slot) (stream : Option (ℕ × ℕ)) (acquired : Option Acquisition)
+    (confirmed : Option Confirmation) (connections : List ConnectionState) (held : Option Hold) → HoldsIf held stream
+    → MayConfirm stream acquired confirmed connections old new → MayNote acquired confirmed held
+may_note old new stream acquired None connections held holds may = tt
+may_note old new stream None (Some one) connections held holds may =
+    let holding : HoldsFor held (one.slot, may.start) = subst (HoldsIf held) may.mine holds in
+    record { mine = holding.mine; held_is = holding.held_is; slot_is = holding.slot_is }
+may_note old new stream (Some it) (Some one) connections held holds may =
+    ap (λ (s : ℕ × ℕ). s.0) (some_is (it.slot, it.start) (one.slot, may.start) may.mine)
 
 -- ---- what the connection knows then
 
@@ -156,11 +196,6 @@ begins_then all some few first second = (
   second.0 ++ first.0,
   first.1 ∙ (ap (λ (list : List SlotEvent). list ++ first.0) second.1 ∙ append_assoc few second.0 first.0),
 )
-
-acquired_kept : (acquired : Option Acquisition) (all : List SlotEvent) (was between : SlotSight)
-    → AcquiresSight acquired all was between → MayHaveSlot all was.held
-acquired_kept None all was between sees = sees.kept
-acquired_kept (Some one) all was between adds = adds.kept
 
 acquired_has_slot : (acquired : Option Acquisition) (all : List SlotEvent) (was between : SlotSight)
     → AcquiresSight acquired all was between → MayHaveSlot between.events between.held
@@ -252,7 +287,8 @@ module _ (acquired : Option Acquisition) (confirmed : Option Confirmation) (all 
 -- ---- what contracts see of it
 
 module _ {U A : Type 0}
-    (did : U → U → Book → Book → List ConnectionState → List ConnectionState → ℕ → Option Acquisition → A → Type 0)
+    (did : U → U → Book → Book → List ConnectionState → List ConnectionState → ℕ → Option Acquisition
+    → Option Confirmation → A → Type 0)
     (checked : CheckedOf) (before after : U) (old new : Sight) (was now : SlotSight) where
   pub used_has : (answer : Option (A × Option ℕ)) → IsStreamedIf did checked before after old new was now answer
       → MayHaveSlot was.events was.held → MayHaveSlot now.events now.held
@@ -268,7 +304,8 @@ module _ {U A : Type 0}
 
 -- what contracts see of it
 module _ {U A : Type 0}
-    (did : U → U → Book → Book → List ConnectionState → List ConnectionState → ℕ → Option Acquisition → A → Type 0)
+    (did : U → U → Book → Book → List ConnectionState → List ConnectionState → ℕ → Option Acquisition
+    → Option Confirmation → A → Type 0)
     (checked : CheckedOf) (before after : U) (old new : Sight) (was now : SlotSight) (viewer later : ViewerOf)
     (viewer_is : record { seen = old.seen; events = was.events; held = was.held; own = was.own } ≡ viewer)
     (later_is : later ≡ record { seen = new.seen; events = now.events; held = now.held; own = now.own }) where
@@ -291,6 +328,8 @@ module _ {U A : Type 0}
     used = streamed.used;
     each = streamed.each;
     found = streamed.found;
+    sent = streamed.sent;
+    ends = streamed.ends;
     had = subst (λ (v : ViewerOf). MayHaveSlot streamed.events v.held) viewer_is
         (acquired_kept streamed.acquired streamed.events was streamed.changes.between streamed.changes.acquires);
     mine = subst (λ (v : ViewerOf). MayNote streamed.acquired streamed.confirmed v.held) viewer_is streamed.mine;

@@ -1,18 +1,28 @@
 -- What a session keeps of its calls: its commits and what it read, in their order.
 use Rattle.std.specs.Prelude.{◌≡◌, ℕ, ◌+◌, ◌<◌, ◌≤◌, ◌^◌, max, All, List, [], ◌∷◌, Some, slice_get}
 use Rattle.publisher_desk.specs.Receipts.{ReceiptOf}
+use Rattle.publisher_desk.specs.Sights.{StartsWith}
+use Rattle.publisher_desk.specs.SlotSights.{BeginsWith}
 use Rattle.publisher_desk.specs.declared.note.Note.{Note}
 use Rattle.publisher_desk.specs.declared.note.Note.TheVariants.{Committed, Looked}
 use Rattle.publisher_desk.specs.declared.note.Reading.{Reading}
+use Rattle.publisher_desk.specs.declared.slot_event.SlotEvent.{SlotEvent}
 
--- A session's place at a publisher: its notes, and the beginning of the log that it has seen, as receipts.
+-- A session's place at a publisher: its notes, the beginning of the log that it has seen, as receipts, and the first
+-- events of slots, which it has seen.
 pub record SeatOf : Type 0 where
   pub notes : List Note
   pub seen : List ReceiptOf
+  pub events : List SlotEvent
 
 -- a seat without notes, which has seen nothing
 abbrev pub empty_seat : SeatOf
-empty_seat = record { notes = []; seen = [] }
+empty_seat = record { notes = []; seen = []; events = [] }
+
+-- It has seen what it had seen, and perhaps more.
+pub record SeesOn (old new : SeatOf) : Type 0 where
+  pub log : StartsWith new.seen old.seen
+  pub slots : BeginsWith new.events old.events
 
 -- the number of a commit, or of how many commits there were when a row was read
 abbrev pub note_number : Note → ℕ

@@ -6,7 +6,7 @@ use Rattle.publisher_desk.specs.Sights.{times}
 use Rattle.publisher_desk.specs.SlotEvents.{KeepSlot, acquisitions, confirmed_after, use_after}
 use Rattle.publisher_desk.specs.declared.slot_event.Acquisition.{Acquisition}
 use Rattle.publisher_desk.specs.declared.slot_event.SlotEvent.{SlotEvent}
-use Rattle.publisher_desk.specs.declared.slot_event.SlotEvent.TheVariants.{Acquired, Confirmed, Released}
+use Rattle.publisher_desk.specs.declared.slot_event.SlotEvent.TheVariants.{Acquired, Advanced, Confirmed, Released}
 use Rattle.publisher_desk.specs.declared.slot_sight.Hold.{Hold}
 use Rattle.publisher_desk.specs.declared.slot_sight.SlotSight.{SlotSight}
 use Rattle.publisher_desk.specs.declared.slot_sight.SlotView.{SlotView}
@@ -103,12 +103,14 @@ hold_with position (Some mine) = Some (hold mine.acquisition mine.number mine.fo
 abbrev pub held_after : SlotEvent → List SlotEvent → Option Hold → Option Hold
 held_after (Acquired one) all held =
     Some (hold one (acquisitions all + 1) (confirmed_after all one.slot) (confirmed_after all one.slot))
+held_after (Advanced one) all held = held
 held_after (Confirmed one) all held = hold_with one.position held
 held_after (Released one) all held = None
 
 -- the numbers of the acquisitions of its connection
 abbrev pub own_after : SlotEvent → ℕ → List ℕ → List ℕ
 own_after (Acquired one) count own = own ++ (count + 1) ∷ []
+own_after (Advanced one) count own = own
 own_after (Confirmed one) count own = own
 own_after (Released one) count own = own
 
@@ -127,6 +129,7 @@ HasIt held slot = (mine : Hold) × (held ≡ Some mine) × (mine.acquisition.slo
 -- A slot is acquired only if it is free, and confirmed and released only by the connection that has it.
 abbrev pub MayHappen : SlotEvent → List SlotEvent → Option Hold → Type 0
 MayHappen (Acquired one) all held = use_after all one.slot ≡ false
+MayHappen (Advanced one) all held = Unit {0}
 MayHappen (Confirmed one) all held = HasIt held one.slot
 MayHappen (Released one) all held = HasIt held one.slot
 

@@ -3,7 +3,7 @@
 use Rattle.std.specs.Prelude.{◌≡◌, ℕ, ◌+◌, ◌≤◌, List, [], ◌∷◌, ◌++◌, length, false, Option, Some, None}
 use Rattle.shard_checker.specs.CheckedView.{CheckedOf, setting_in}
 use Rattle.table_changes.specs.Tables.{no_rows}
-use Rattle.tables_log.specs.BookView.{book_slots}
+use Rattle.tables_log.specs.BookView.{book_log, book_slots}
 use Rattle.tables_log.specs.Commits.{CommitOf}
 use Rattle.tables_log.specs.Slots.{AreInUse}
 use Rattle.tables_log.specs.StandsFor.{AreAccepted, entries_from}
@@ -12,7 +12,7 @@ use Rattle.tables_log.specs.declared.slots.Slot.{Slot}
 use Rattle.publisher_desk.specs.Lending.{IsLent}
 use Rattle.publisher_desk.specs.Receipts.{ReceiptOf, transactions_of}
 use Rattle.publisher_desk.specs.Sights.{Sees, StartsWith, times}
-use Rattle.publisher_desk.specs.SlotEvents.{AreConfirmed, KeepSlot, acquisitions, confirmed_after, events_then, events_with, use_after}
+use Rattle.publisher_desk.specs.SlotEvents.{AreConfirmed, AreSent, IsSentWithin, KeepSlot, acquisitions, advanced_after, confirmed_after, events_then, events_with, use_after}
 use Rattle.publisher_desk.specs.SlotSights.{AddsEvent, BeginsWith, MayHaveSlot, SeesEvents, hold}
 use Rattle.publisher_desk.specs.declared.connection_state.ConnectionState.{ConnectionState}
 use Rattle.publisher_desk.specs.declared.sight.Sight.{Sight}
@@ -57,10 +57,17 @@ pub record Holds (held : Option Hold) (slot : ℕ) : Type 0 where
   pub held_is : held ≡ Some mine
   pub slot_is : mine.acquisition.slot ≡ slot
 
--- so it is if a slot is named
-abbrev pub HoldsIf : Option Hold → Option ℕ → Type 0
+-- it has the slot of this stream, which starts here
+pub record HoldsFor (held : Option Hold) (stream : ℕ × ℕ) : Type 0 where
+  pub mine : Hold
+  pub held_is : held ≡ Some mine
+  pub slot_is : mine.acquisition.slot ≡ stream.0
+  pub start_is : mine.acquisition.start ≡ stream.1
+
+-- so it is if a stream is named
+abbrev pub HoldsIf : Option Hold → Option (ℕ × ℕ) → Type 0
 HoldsIf held None = Unit {0}
-HoldsIf held (Some slot) = Holds held slot
+HoldsIf held (Some stream) = HoldsFor held stream
 
 -- the slot that it has, confirmed as slots are now
 abbrev pub hold_at : (ℕ → ℕ) → Option Hold → Option Hold
@@ -84,22 +91,25 @@ permit_for None = None
 permit_for (Some one) = Some one.slot
 
 -- The connection was lent a book of the log that it has then seen, with a slot for each subscription. Before it used
--- the book, the slots in use were those after these events, each was confirmed as they say, and the connection had what
--- it has. If it acquired a slot, this was the acquisition of this number, and it has a permit. It confirmed at most the
--- slot that it has.
+-- the book, the slots in use were those after these events, each was confirmed, and its client was sent the log, as they
+-- say, up to the log's end at most, and the connection had what it has. If it acquired a slot, this was the acquisition
+-- of this number, and it has a permit. It confirmed at most the slot that it has.
 pub record IsUsed {U A : Type 0}
-    (did : U → U → Book → Book → List ConnectionState → List ConnectionState → ℕ → Option Acquisition → A → Type 0)
+    (did : U → U → Book → Book → List ConnectionState → List ConnectionState → ℕ → Option Acquisition
+    → Option Confirmation → A → Type 0)
     (checked : CheckedOf) (old new : ViewerOf) (before after : U) (answer : A) (permit : Option ℕ) : Type 0 where
   pub number : ℕ
   pub acquired : Option Acquisition
   pub confirmed : Option Confirmation
   pub lent : IsLent (λ user left book changed connections others it.
-      did user left book changed connections others number acquired it) checked before after answer
+      did user left book changed connections others number acquired confirmed it) checked before after answer
   pub log_is : transactions_of new.seen ≡ lent.transactions
   pub events : List SlotEvent
   pub used : AreInUse (use_after events) (book_slots lent.old)
   pub each : length (book_slots lent.old) ≡ length checked.catalog.subscriptions
   pub found : AreConfirmed (confirmed_after events) (book_slots lent.old)
+  pub sent : AreSent (advanced_after events) lent.connections
+  pub ends : IsSentWithin (length (book_log lent.old)) (advanced_after events)
   pub had : MayHaveSlot events old.held
   pub mine : MayNote acquired confirmed old.held
   pub number_is : number ≡ acquisitions events + 1
@@ -114,7 +124,8 @@ pub record IsUnused {U : Type 0} (old new : ViewerOf) (before after : U) : Type 
   pub user : after ≡ before
 
 abbrev pub IsUsedIf : {U A : Type 0}
-    → (U → U → Book → Book → List ConnectionState → List ConnectionState → ℕ → Option Acquisition → A → Type 0)
+    → (U → U → Book → Book → List ConnectionState → List ConnectionState → ℕ → Option Acquisition
+    → Option Confirmation → A → Type 0)
     → CheckedOf → ViewerOf → ViewerOf → U → U → Option (A × Option ℕ) → Type 0
 IsUsedIf did checked old new before after None = IsUnused old new before after
 IsUsedIf did checked old new before after (Some answered) =
@@ -127,8 +138,8 @@ release slot commits = record { slot = slot; commits = commits }
 
 -- The stream acquired its slot while it was free, and released it when the log had so many commits. Between these no
 -- event acquires or releases the slot. Up to where it was confirmed before the acquisition, and before the release, is
--- known.
-pub record HadSlot (events : List SlotEvent) (held : Hold) (commits : ℕ) : Type 0 where
+-- known, and up to where its client was sent the log in between.
+pub record HadSlot (events : List SlotEvent) (held : Hold) (sent commits : ℕ) : Type 0 where
   pub before : List SlotEvent
   pub between : List SlotEvent
   pub after : List SlotEvent
@@ -140,13 +151,14 @@ pub record HadSlot (events : List SlotEvent) (held : Hold) (commits : ℕ) : Typ
   pub found_is : held.found ≡ confirmed_after before held.acquisition.slot
   pub confirmed_is : held.confirmed
       ≡ confirmed_after (before ++ Acquired held.acquisition ∷ between) held.acquisition.slot
+  pub sent_is : sent ≡ advanced_after (before ++ Acquired held.acquisition ∷ between) held.acquisition.slot
 
--- It has released the slot that it had, which is then free. The acquisition is its own. It has seen the log as it was
--- then.
-pub record HasReleased (old new : ViewerOf) : Type 0 where
+-- It has released the slot that it had, which is then free, and whose client was sent the log up to here. The
+-- acquisition is its own. It has seen the log as it was then.
+pub record HasReleased (sent : ℕ) (old new : ViewerOf) : Type 0 where
   pub mine : Hold
   pub was : old.held ≡ Some mine
-  pub had : HadSlot new.events mine (length new.seen)
+  pub had : HadSlot new.events mine sent (length new.seen)
   pub free : use_after new.events mine.acquisition.slot ≡ false
   pub none : new.held ≡ None
   pub own : 1 ≤ times mine.number new.own
@@ -191,9 +203,11 @@ pub record SeesSlots (was now : SlotSight) : Type 0 where
   pub events : List SlotEvent
   pub sees : SeesEvents events was now
 
--- It has then seen all events, the last of which is this release.
-pub record Releases (slot commits : ℕ) (was now : SlotSight) : Type 0 where
+-- It has then seen all events, the last of which is this release. By those before it, the client of the slot was sent
+-- the log up to here.
+pub record Releases (slot sent commits : ℕ) (was now : SlotSight) : Type 0 where
   pub events : List SlotEvent
+  pub sent_is : sent ≡ advanced_after events slot
   pub adds : AddsEvent events (Released (release slot commits)) was now
 
 -- It has seen all events, and then what it acquired.
@@ -214,14 +228,15 @@ pub record ChangesSight (acquired : Option Acquisition) (confirmed : Option Conf
 
 -- What was lent is of a log that the connection has then seen, with a slot for each subscription.
 pub record IsStreamed {U A : Type 0}
-    (did : U → U → Book → Book → List ConnectionState → List ConnectionState → ℕ → Option Acquisition → A → Type 0)
+    (did : U → U → Book → Book → List ConnectionState → List ConnectionState → ℕ → Option Acquisition
+    → Option Confirmation → A → Type 0)
     (checked : CheckedOf) (before after : U) (old new : Sight) (was now : SlotSight) (answer : A) (permit : Option ℕ) :
     Type 0 where
   pub number : ℕ
   pub acquired : Option Acquisition
   pub confirmed : Option Confirmation
   pub lent : IsLent (λ user left book changed connections others it.
-      did user left book changed connections others number acquired it) checked before after answer
+      did user left book changed connections others number acquired confirmed it) checked before after answer
   pub log : List ReceiptOf
   pub sees : Sees log old new
   pub log_is : transactions_of log ≡ lent.transactions
@@ -229,6 +244,8 @@ pub record IsStreamed {U A : Type 0}
   pub used : AreInUse (use_after events) (book_slots lent.old)
   pub each : length (book_slots lent.old) ≡ length checked.catalog.subscriptions
   pub found : AreConfirmed (confirmed_after events) (book_slots lent.old)
+  pub sent : AreSent (advanced_after events) lent.connections
+  pub ends : IsSentWithin (length (book_log lent.old)) (advanced_after events)
   pub mine : MayNote acquired confirmed was.held
   pub number_is : number ≡ acquisitions events + 1
   pub changes : ChangesSight acquired confirmed events was now
@@ -241,7 +258,8 @@ pub record IsNotStreamed {U : Type 0} (before after : U) (old new : Sight) (was 
   pub slots : now ≡ was
 
 abbrev pub IsStreamedIf : {U A : Type 0}
-    → (U → U → Book → Book → List ConnectionState → List ConnectionState → ℕ → Option Acquisition → A → Type 0)
+    → (U → U → Book → Book → List ConnectionState → List ConnectionState → ℕ → Option Acquisition
+    → Option Confirmation → A → Type 0)
     → CheckedOf → U → U → Sight → Sight → SlotSight → SlotSight → Option (A × Option ℕ) → Type 0
 IsStreamedIf did checked before after old new was now None = IsNotStreamed before after old new was now
 IsStreamedIf did checked before after old new was now (Some answered) =

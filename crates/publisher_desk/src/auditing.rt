@@ -63,6 +63,7 @@ pub(crate) fn audit_all<P: Publishing>(
                 high: _,
                 mark,
                 token,
+                slots: _,
             } = seat;
             let count = count_receipts(notes.as_slice());
             let mine = mem::replace(mark, all.empty());

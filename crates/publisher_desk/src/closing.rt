@@ -18,8 +18,8 @@ use std::sync::{Arc, ledger};
 use tables_log::Book;
 
 /// A publisher without its lock, whose sessions and connections are over. Contracts see its log, as receipts, its
-/// slots, and their events. What a connection of the publisher has seen is a beginning of the log and of the events,
-/// and what a seat has seen is a beginning of the log.
+/// slots, and their events. What a connection or a seat of the publisher has seen is a beginning of the log and of the
+/// events.
 #[derive(Drop)]
 pub struct Closing<P: Publishing> {
     pub(crate) alloc: Global,
@@ -47,7 +47,7 @@ impl<P: Publishing> Model for Closing<P> {
 }
 
 impl<P: Publishing> Closing<P> {
-    ghost use Rattle.std.specs.Prelude.{◌≡◌, length};
+    ghost use Rattle.std.specs.Prelude.{◌≡◌, [], length};
     ghost use Rattle.std.specs.Arc.{arc_value};
     ghost use Rattle.shard_checker.specs.CheckedView.{checked_view, setting_in};
     ghost use Rattle.tables_log.specs.BookView.{book_checked, book_limit, book_slots};
@@ -57,7 +57,8 @@ impl<P: Publishing> Closing<P> {
     ghost use Rattle.publisher_desk.specs.Logged.{AreSeatsIn};
     ghost use Rattle.publisher_desk.specs.Receipts.{transactions_of};
     ghost use Rattle.publisher_desk.specs.Sights.{StartsWith};
-    ghost use Rattle.publisher_desk.specs.SlotEvents.{AreConfirmed, AreInTurn, acquisitions, confirmed_after, no_position, no_use, use_after};
+    ghost use Rattle.publisher_desk.specs.SlotSights.{BeginsWith};
+    ghost use Rattle.publisher_desk.specs.SlotEvents.{AreConfirmed, AreInTurn, AreWithinReach, acquisitions, confirmed_after, no_position, no_use, use_after};
     ghost use Rattle.publisher_desk.specs.Viewers.{IsSeenIn, ShareNoAcquisition};
 
     /// What memory is taken from.
@@ -75,7 +76,7 @@ impl<P: Publishing> Closing<P> {
     /// The book: it is of the checked catalog, and of the transactions of the log. Its slots in use are those that
     /// streams have acquired and not released, and each is confirmed up to the position of its last confirmation. A
     /// slot was acquired only while it was free, and confirmed and released only while it was in use, and what was
-    /// confirmed never went back.
+    /// confirmed never went back. No client confirmed more than it had been sent, or than what is before its stream.
     pub fn book(&self) -> &Book
         ensures named { book_checked result.now ≡ P.checked }
         ensures limited { book_limit result.now ≡ P.limit }
@@ -84,6 +85,7 @@ impl<P: Publishing> Closing<P> {
         ensures used { AreInUse (use_after self.now.events) self.now.slots }
         ensures confirmed { AreConfirmed (confirmed_after self.now.events) self.now.slots }
         ensures turns { AreInTurn no_use no_position self.now.events }
+        ensures within { AreWithinReach [] self.now.events }
     {
         &self.book
     }
@@ -120,15 +122,21 @@ impl<P: Publishing> Closing<P> {
         slots.compare_two(mine, theirs);
     }
 
-    /// Establishes that what the seat has seen is a beginning of the log.
+    /// Establishes that what the seat has seen is a beginning of the log and of the events of the slots.
     pub fn check_seat(&mut self, seat: &mut Seat<P>)
         ensures seen { StartsWith self.old.log seat.old.seen }
+        ensures events { BeginsWith self.old.events seat.old.events }
         ensures same { self.new ≡ self.old }
         ensures seat { seat.new ≡ seat.old }
     {
-        let Closing { history, .. } = self;
-        let Seat { token, .. } = seat;
+        let Closing { history, slots, .. } = self;
+        let Seat {
+            token,
+            slots: mine,
+            ..
+        } = seat;
         history.compare(token);
+        slots.compare(mine);
     }
 
     /// Compares the seats with the log. `rest` are the seats that no session has, and `seats` some of those of the

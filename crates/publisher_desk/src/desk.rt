@@ -1,11 +1,9 @@
 //! What a publisher's lock holds.
 
-ghost use Rattle.std.specs.Prelude.{◌≡◌, ◌+◌, ◌<◌, ◌≤◌, map, length, IfOk, IfErr, IfSome, IfNone, OnOk, OnErr, None};
+ghost use Rattle.std.specs.Prelude.{◌≡◌, ◌+◌, ◌<◌, ◌≤◌, map, length, IfOk, IfErr, OnOk, OnErr};
 ghost use Rattle.table_changes.specs.Commands.{command_view};
-ghost use Rattle.tables_log.specs.BookView.{book_checked, book_log, book_rows};
+ghost use Rattle.tables_log.specs.BookView.{book_log, book_rows};
 ghost use Rattle.tables_log.specs.Committing.{Commits, IsKept, RefusedBy};
-ghost use Rattle.tables_log.specs.Logs.{entry_at};
-ghost use Rattle.publisher_desk.specs.Lending.{IsNext, IsStepOf, commits_in};
 
 use crate::closing::Closing;
 use crate::connection_state::ConnectionState;
@@ -14,10 +12,11 @@ use crate::naming::Publishing;
 use crate::note::copy_found;
 use crate::permit::Permit;
 use crate::receipt::Receipt;
-use crate::slot_event::Release;
+use crate::slot_event::{Advance, Release};
 use crate::slot_history::{SlotHistory, SlotToken};
 use crate::slot_task::SlotTask;
 use crate::step::SenderStep;
+use crate::stepping::{advance, further, next_for, part, sent_up_to, settle};
 use crate::stream_task::StreamTask;
 use filter_tree::{Row, TableNumber};
 use row_owners::OwnerSet;
@@ -101,45 +100,6 @@ fn look_up(
     Ok((book.log_len(), answer))
 }
 
-/// The number of a commit, where some log may have one of this number.
-fn commit_number(number: u64) -> Option<CommitNumber>
-    ensures is { IfSome result (λ found. found ≡ number) }
-    ensures some { IfSome result (λ found. 1 ≤ found) }
-{
-    if number == 0 {
-        return None;
-    }
-    CommitNumber::try_from(number).ok()
-}
-
-/// The next step of the slot's sender, which has sent all commits before this number, and the number of the last commit
-/// in it; none at the log's end. It fails only if memory is refused or an entry is shared too often.
-fn next_commits(
-    book: &Book,
-    slot: SlotNumber,
-    number: CommitNumber,
-) -> Result<Option<(SenderStep, CommitNumber)>, AllocError>
-    requires few { slot < 32 }
-    requires some { 1 ≤ number }
-    ensures entry { IfOk result (λ found. IfSome found (λ next.
-        IsStepOf (book_checked book.now).plan slot (book_log book.now) number next.0)) }
-    ensures next { IfOk result (λ found. IfSome found (λ next.
-        IsNext (book_checked book.now).plan slot number next.0)) }
-    ensures last { IfOk result (λ found. IfSome found (λ next. next.1 + 1 ≡ number + commits_in next.0)) }
-    ensures within { IfOk result (λ found. IfSome found (λ next. next.1 ≤ length (book_log book.now))) }
-    ensures none { IfOk result (λ found. IfNone found (entry_at (book_log book.now) number ≡ None)) }
-{
-    let passed = book.passed_over(slot, number - 1)?;
-    if let Some(last) = passed.last() {
-        let last = last.number();
-        return Ok(Some((SenderStep::Skip(passed), last)));
-    }
-    let Some(entry) = book.routed(number)? else {
-        return Ok(None);
-    };
-    Ok(Some((SenderStep::Entry(entry), number)))
-}
-
 impl<P: Publishing> Desk<P> {
     ghost use Rattle.std.specs.Prelude.{◌≡◌, ◌+◌, ◌<◌, ◌≤◌, [], map, length, true, Some, IfOk, IfErr, IfSome, IfNone, OnOk, OnErr, None};
     ghost use Rattle.std.specs.Arc.{arc_value};
@@ -151,7 +111,7 @@ impl<P: Publishing> Desk<P> {
     ghost use Rattle.tables_log.specs.Routes.{gets_some};
     ghost use Rattle.publisher_desk.specs.Answers.{IsMade};
     ghost use Rattle.publisher_desk.specs.Held.{AddsEntry};
-    ghost use Rattle.publisher_desk.specs.Lending.{IsLent, LendsTo, IsStepOf, IsNext};
+    ghost use Rattle.publisher_desk.specs.Lending.{IsGiven, IsLent, LendsTo, IsStepOf, IsNext};
     ghost use Rattle.publisher_desk.specs.Logged.{Looks, Records, Refuses};
     ghost use Rattle.publisher_desk.specs.Receipts.{receipt_of};
     ghost use Rattle.publisher_desk.specs.Refusals.{HasFault};
@@ -269,45 +229,52 @@ impl<P: Publishing> Desk<P> {
     /// no log has, the sender ends.
     ///
     /// It sends the commit with this number if the slot's subscriber gets something of it. Otherwise it passes over
-    /// that commit and those after it, up to the first of which the subscriber gets something, and at most 64.
-    pub(crate) fn step(&mut self, slot: SlotNumber, number: u64) -> Option<SenderStep>
+    /// that commit and those after it, up to the first of which the subscriber gets something, and at most 64. If there
+    /// is a step, the connection has then seen the log and all events.
+    pub(crate) fn step(
+        &mut self,
+        token: &mut Option<HistoryToken<P>>,
+        slots: &mut Option<SlotToken<P>>,
+        slot: SlotNumber,
+        number: u64,
+    ) -> Option<SenderStep>
         ensures log { self.new ≡ self.old }
         ensures entry { IfSome result (IsStepOf P.checked.plan slot self.old number) }
         ensures next { IfSome result (IsNext P.checked.plan slot number) }
+        ensures given { IfSome result (IsGiven slot number (slot_sight_of slots.new).events) }
         ensures waits { IfNone result (entry_at self.old number ≡ None) }
+        ensures seen { IfSome result (λ _. IsShown P.checked self.old (sight_of token.old) (sight_of token.new)
+            (slot_sight_of slots.old) (slot_sight_of slots.new)) }
+        ensures unseen { IfNone result ((token.new ≡ token.old) × (slots.new ≡ slots.old)) }
     {
-        let Some(connection) = self.connections.get(slot).copied() else {
-            return Some(SenderStep::Ended);
-        };
-        if connection.wants_reply {
-            self.connections[slot] = ConnectionState {
-                sent: connection.sent,
-                wants_reply: false,
-                has_ended: connection.has_ended,
-            };
-            return Some(SenderStep::Reply);
+        let connections = self.connections.as_mut_slice();
+        let (step, last) = next_for(&self.book, connections, self.is_finished, slot, number)?;
+        if let Some(last) = last {
+            let position = further(connections, slot, Lsn::end_of_commit(last));
+            advance(connections, slot, position);
+            self.slots.advance(Advance { slot, position });
+            self.history.look(token);
+            self.slots.look(slots);
+            return Some(step);
         }
-        if connection.has_ended {
-            return Some(SenderStep::Ended);
-        }
-        let Some(number) = commit_number(number) else {
-            return Some(SenderStep::Ended);
-        };
-        let Ok(found) = next_commits(&self.book, slot, number) else {
-            return Some(SenderStep::OutOfMemory);
-        };
-        let Some((step, last)) = found else {
-            if self.is_finished {
-                return Some(SenderStep::Finished);
-            }
-            return None;
-        };
-        self.connections[slot] = ConnectionState {
-            sent: Lsn::end_of_commit(last),
-            wants_reply: false,
-            has_ended: false,
-        };
+        settle(connections, slot);
+        self.history.look(token);
+        self.slots.look(slots);
         Some(step)
+    }
+
+    /// Shows a connection the log and the events of the slots.
+    pub(crate) fn show(
+        &mut self,
+        token: &mut Option<HistoryToken<P>>,
+        slots: &mut Option<SlotToken<P>>,
+    )
+        ensures log { self.new ≡ self.old }
+        ensures seen { IsShown P.checked self.old (sight_of token.old) (sight_of token.new) (slot_sight_of slots.old)
+            (slot_sight_of slots.new) }
+    {
+        self.history.look(token);
+        self.slots.look(slots);
     }
 
     /// The subscribers that get something of the commit with this number.
@@ -342,12 +309,24 @@ impl<P: Publishing> Desk<P> {
         slots
     }
 
-    /// The slots whose sender has something to do other than commits.
-    pub(crate) fn wanted(&self) -> OwnerSet {
+    /// The slots whose connection has ended.
+    pub(crate) fn ended(&self) -> OwnerSet {
         let mut slots = OwnerSet::none();
         for (slot, connection) in self.connections.iter().enumerate() {
             if slot < 32 {
-                slots.put(slot, connection.wants_reply || connection.has_ended);
+                slots.put(slot, connection.has_ended);
+            }
+        }
+        slots
+    }
+
+    /// The slots whose sender has something to do other than commits, where the connections of these had ended before.
+    pub(crate) fn wanted(&self, ended: OwnerSet) -> OwnerSet {
+        let mut slots = OwnerSet::none();
+        for (slot, connection) in self.connections.iter().enumerate() {
+            if slot < 32 {
+                let ends = connection.has_ended && !ended.has(slot);
+                slots.put(slot, connection.wants_reply || ends);
             }
         }
         slots
@@ -362,33 +341,23 @@ impl<P: Publishing> Desk<P> {
         user.use_slots(&mut self.book, self.connections.as_mut_slice())
     }
 
-    /// Does what `with_slots` does. The seat's token has then seen the whole history.
+    /// Does what `with_slots` does. The seat's tokens have then seen the whole history and all events.
     #[tactic(auto, using(crate::proofs::HeldLemmas::kept_events))]
     pub(crate) fn with_slots_for<U: SlotTask>(
         &mut self,
         token: &mut Option<HistoryToken<P>>,
+        slots: &mut Option<SlotToken<P>>,
         user: &mut U,
     ) -> U::Answer
         ensures log { self.new ≡ self.old }
-        ensures lent { LendsTo U.did P.checked user.old user.new result (sight_of token.old) (sight_of token.new) }
+        ensures lent { LendsTo U.did P.checked user.old user.new result (sight_of token.old) (sight_of token.new)
+            (slot_sight_of slots.old) (slot_sight_of slots.new) }
     {
+        self.book.has_each_slot();
         let answer = user.use_slots(&mut self.book, self.connections.as_mut_slice());
         self.history.look(token);
-        answer
-    }
-
-    /// Shows a connection the log and the events of the slots.
-    pub(crate) fn show(
-        &mut self,
-        token: &mut Option<HistoryToken<P>>,
-        slots: &mut Option<SlotToken<P>>,
-    )
-        ensures log { self.new ≡ self.old }
-        ensures seen { IsShown P.checked self.old (sight_of token.old) (sight_of token.new) (slot_sight_of slots.old)
-            (slot_sight_of slots.new) }
-    {
-        self.history.look(token);
         self.slots.look(slots);
+        answer
     }
 
     /// Lets the task of a connection use the book and the state of each slot's connection, acquire a slot, and confirm
@@ -402,7 +371,7 @@ impl<P: Publishing> Desk<P> {
         slots: &mut Option<SlotToken<P>>,
         user: &mut U,
     ) -> Option<(U::Answer, Option<Permit>)>
-        requires { HoldsIf (slot_sight_of slots.old).held (U.slot user.old) }
+        requires { HoldsIf (slot_sight_of slots.old).held (U.stream user.old) }
         ensures log { self.new ≡ self.old }
         ensures used { IsStreamedIf U.did P.checked user.old user.new (sight_of token.old) (sight_of token.new)
             (slot_sight_of slots.old) (slot_sight_of slots.new) result }
@@ -421,23 +390,28 @@ impl<P: Publishing> Desk<P> {
     }
 
     /// Releases the slot that the connection has. The connection has then seen the log, as it is now, and all events.
+    /// The slot's connection has ended. Returns the position up to which its client was sent the log.
     #[tactic(auto, using(crate::proofs::SlotLemmas::released_events))]
     pub(crate) fn release(
         &mut self,
         token: &mut Option<HistoryToken<P>>,
         slots: &mut Option<SlotToken<P>>,
         slot: SlotNumber,
-    )
+    ) -> Lsn
         requires { Holds (slot_sight_of slots.old).held slot }
         ensures log { self.new ≡ self.old }
         ensures seen { SeesLog P.checked (sight_of token.old) (sight_of token.new) }
-        ensures released { Releases slot (length (sight_of token.new).seen) (slot_sight_of slots.old)
+        ensures released { Releases slot result (length (sight_of token.new).seen) (slot_sight_of slots.old)
             (slot_sight_of slots.new) }
     {
         let commits = self.book.log_len();
+        let connections = self.connections.as_mut_slice();
+        let sent = sent_up_to(connections, slot);
+        part(connections, slot);
         self.book.release(slot);
         self.history.look(token);
         self.slots.release(slots, Release { slot, commits });
+        sent
     }
 
     /// Shows a connection the log, of which what another token has seen is a beginning.

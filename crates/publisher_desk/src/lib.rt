@@ -24,6 +24,7 @@ mod slot_history;
 mod slot_sight;
 mod slot_task;
 mod step;
+mod stepping;
 mod stream_task;
 mod viewer;
 
@@ -39,7 +40,7 @@ pub use read_fault::ReadFault;
 pub use receipt::Receipt;
 pub use seat::Seat;
 pub use seats::Seats;
-pub use slot_event::{Acquisition, Confirmation, Release, SlotEvent};
+pub use slot_event::{Acquisition, Advance, Confirmation, Release, SlotEvent};
 pub use slot_task::SlotTask;
 pub use step::SenderStep;
 pub use stream_task::StreamTask;

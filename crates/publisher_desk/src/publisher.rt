@@ -24,7 +24,7 @@ use std::alloc::{AllocError, Global};
 use std::marker::Model;
 use std::sync::{Arc, Mutex, Wait};
 use table_changes::Command;
-use tables_log::{CommitError, CommitNumber, SlotNumber};
+use tables_log::{CommitError, CommitNumber, Lsn, SlotNumber};
 
 /// A commit of fewer commands is small.
 const SMALL: usize = 8;
@@ -64,11 +64,11 @@ impl<P: Publishing> Publisher<P> {
     ghost use Rattle.shard_checker.specs.CheckedView.{checked_view, setting_in};
     ghost use Rattle.table_changes.specs.Commands.{command_view};
     ghost use Rattle.publisher_desk.specs.Answers.{IsMade, IsRead};
-    ghost use Rattle.publisher_desk.specs.Lending.{IsLent, IsLentTo, IsNext, IsStepOf};
+    ghost use Rattle.publisher_desk.specs.Lending.{IsGiven, IsLent, IsLentTo, IsNext, IsStepOf};
     ghost use Rattle.publisher_desk.specs.Logged.{IsRefused};
     ghost use Rattle.publisher_desk.specs.Receipts.{receipt_of};
     ghost use Rattle.publisher_desk.specs.Refusals.{HasFault, HasReadFault};
-    ghost use Rattle.publisher_desk.specs.Seats.{AreUpTo, receipts};
+    ghost use Rattle.publisher_desk.specs.Seats.{AreUpTo, SeesOn, receipts};
     ghost use Rattle.publisher_desk.specs.Sights.{StartsWith};
     ghost use Rattle.publisher_desk.specs.SlotSights.{BeginsWith};
     ghost use Rattle.publisher_desk.specs.Viewers.{HasReleased, Holds, HoldsIf, IsUsedIf, SeesMore, log_seen};
@@ -149,13 +149,14 @@ impl<P: Publishing> Publisher<P> {
         ensures fault { IfErr result (HasFault (setting_in P.checked) (map command_view commands.items)) }
         ensures refused { IfErr result (IsRefused P.checked P.limit seat.new (map command_view commands.items)) }
         ensures err { OnErr result (seat.new.notes ≡ seat.old.notes) }
-        ensures begins { StartsWith seat.new.seen seat.old.seen }
+        ensures begins { SeesOn seat.old seat.new }
     {
         let Seat {
             notes,
             high,
             mark,
             token,
+            slots: _,
         } = seat;
         notes.reserve(1)?;
         let is_small = commands.len() < SMALL;
@@ -199,7 +200,7 @@ impl<P: Publishing> Publisher<P> {
         ensures known { OnOk result (table < length P.checked.catalog.tables) }
         ensures refused { IfErr result (HasReadFault P.checked table) }
         ensures err { OnErr result (seat.new.notes ≡ seat.old.notes) }
-        ensures begins { StartsWith seat.new.seen seat.old.seen }
+        ensures begins { SeesOn seat.old seat.new }
     {
         if table >= self.checked.catalog().tables.len() {
             return Err(ReadFault::NoTable);
@@ -209,6 +210,7 @@ impl<P: Publishing> Publisher<P> {
             high,
             mark,
             token,
+            slots: _,
         } = seat;
         notes.reserve(1)?;
         let (number, answer) = self
@@ -245,7 +247,8 @@ impl<P: Publishing> Publisher<P> {
     ///
     /// It sends the commit with this number if the slot's subscriber gets something of it. Otherwise it passes over
     /// that commit and those after it, up to the first of which the subscriber gets something, and at most 64. The
-    /// viewer has then seen the log, which has these commits.
+    /// viewer has then seen the log, which has these commits, and that the slot's sender was given it up to the last of
+    /// them.
     pub fn next_step<R: Wait>(
         &self,
         rt: &R,
@@ -255,6 +258,7 @@ impl<P: Publishing> Publisher<P> {
     ) -> SenderStep
         ensures next { IsNext P.checked.plan slot number result }
         ensures logged { IsStepOf P.checked.plan slot (log_seen P.checked viewer.new.seen) number result }
+        ensures given { IsGiven slot number viewer.new.events result }
         ensures more { SeesMore viewer.old viewer.new }
         ensures held { viewer.new.held ≡ viewer.old.held }
     {
@@ -263,9 +267,8 @@ impl<P: Publishing> Publisher<P> {
         };
         let mut desk = self.desk.lock(rt);
         for _ in rt.forever() {
-            if let Some(step) = desk.step(slot, number) {
-                let Viewer { token, slots } = viewer;
-                desk.show(token, slots);
+            let Viewer { token, slots } = viewer;
+            if let Some(step) = desk.step(token, slots, slot, number) {
                 return step;
             }
             desk = moved.wait(rt, desk);
@@ -284,14 +287,19 @@ impl<P: Publishing> Publisher<P> {
         ensures next { IfSome result (IsNext P.checked.plan slot number) }
         ensures logged { IfSome result (
             IsStepOf P.checked.plan slot (log_seen P.checked viewer.new.seen) number) }
+        ensures given { IfSome result (IsGiven slot number viewer.new.events) }
         ensures more { SeesMore viewer.old viewer.new }
         ensures held { viewer.new.held ≡ viewer.old.held }
     {
         let Viewer { token, slots } = viewer;
         let mut desk = self.desk.lock(rt);
-        let step = desk.step(slot, number);
-        desk.show(token, slots);
-        step
+        match desk.step(token, slots, slot, number) {
+            Some(step) => Some(step),
+            None => {
+                desk.show(token, slots);
+                None
+            }
+        }
     }
 
     /// Lets a task use the book and the state of each slot's connection, under the lock. The book is of the checked
@@ -300,15 +308,17 @@ impl<P: Publishing> Publisher<P> {
         ensures { IsLent U.did P.checked user.old user.new result }
     {
         let mut desk = self.desk.lock(rt);
+        let ended = desk.ended();
         let answer = desk.with_slots(user);
-        let wanted = desk.wanted();
+        let wanted = desk.wanted(ended);
         drop(desk);
         self.moved.wake(wanted);
         answer
     }
 
     /// Does what `with_slots` does, for a session. The book's log is the one that the seat has then seen, and has all
-    /// of its commits.
+    /// of its commits. Its slots are those of the events that the seat has then seen, and each client was sent the log
+    /// as they say.
     pub fn with_slots_for<U: SlotTask, R: Wait>(
         &self,
         rt: &R,
@@ -317,17 +327,13 @@ impl<P: Publishing> Publisher<P> {
     ) -> U::Answer
         ensures lent { IsLentTo U.did P.checked seat.new user.old user.new result }
         ensures same { seat.new.notes ≡ seat.old.notes }
-        ensures begins { StartsWith seat.new.seen seat.old.seen }
+        ensures begins { SeesOn seat.old seat.new }
     {
-        let Seat {
-            notes: _,
-            high: _,
-            mark: _,
-            token,
-        } = seat;
+        let Seat { token, slots, .. } = seat;
         let mut desk = self.desk.lock(rt);
-        let answer = desk.with_slots_for(token, user);
-        let wanted = desk.wanted();
+        let ended = desk.ended();
+        let answer = desk.with_slots_for(token, slots, user);
+        let wanted = desk.wanted(ended);
         drop(desk);
         self.moved.wake(wanted);
         answer
@@ -344,14 +350,15 @@ impl<P: Publishing> Publisher<P> {
         viewer: &mut Viewer<P>,
         user: &mut U,
     ) -> Option<(U::Answer, Option<Permit>)>
-        requires { HoldsIf viewer.old.held (U.slot user.old) }
+        requires { HoldsIf viewer.old.held (U.stream user.old) }
         ensures used { IsUsedIf U.did P.checked viewer.old viewer.new user.old user.new result }
         ensures more { SeesMore viewer.old viewer.new }
     {
         let Viewer { token, slots } = viewer;
         let mut desk = self.desk.lock(rt);
+        let ended = desk.ended();
         let answer = desk.with_stream(token, slots, user);
-        let wanted = desk.wanted();
+        let wanted = desk.wanted(ended);
         drop(desk);
         self.moved.wake(wanted);
         answer
@@ -359,14 +366,17 @@ impl<P: Publishing> Publisher<P> {
 
     /// Releases the slot that the connection has, whose permit it gives back: from now on another may acquire it. The
     /// release has the number of commits that the connection has then seen, which is never above that of the log.
-    pub fn release<R: Wait>(&self, rt: &R, viewer: &mut Viewer<P>, permit: Permit)
+    /// From then on its sender ends, and
+    /// nothing counts as sent for the slot. Returns the position up to which its client was sent the log on this stream: the end of the last commit of
+    /// the steps that were returned for the slot, or 0 if there was none.
+    pub fn release<R: Wait>(&self, rt: &R, viewer: &mut Viewer<P>, permit: Permit) -> Lsn
         requires { Holds viewer.old.held permit }
-        ensures released { HasReleased viewer.old viewer.new }
+        ensures released { HasReleased result viewer.old viewer.new }
         ensures more { SeesMore viewer.old viewer.new }
     {
         let Viewer { token, slots } = viewer;
         let slot = permit.into_slot();
-        self.desk.lock(rt).release(token, slots, slot);
+        self.desk.lock(rt).release(token, slots, slot)
     }
 
     /// Shows a viewer the log and the events of the slots. What another viewer has seen is a beginning of these. So what
@@ -396,7 +406,7 @@ impl<P: Publishing> Publisher<P> {
         ensures more { SeesMore viewer.old viewer.new }
         ensures held { viewer.new.held ≡ viewer.old.held }
         ensures same { seat.new.notes ≡ seat.old.notes }
-        ensures kept { StartsWith seat.new.seen seat.old.seen }
+        ensures kept { SeesOn seat.old seat.new }
     {
         let Viewer { token, slots: _ } = viewer;
         let Seat { token: known, .. } = seat;

@@ -3,7 +3,7 @@
 ghost use Rattle.std.specs.Prelude.{◌≡◌};
 
 use crate::naming::Publishing;
-use crate::slot_event::{Acquisition, Confirmation, Release, SlotEvent};
+use crate::slot_event::{Acquisition, Advance, Confirmation, Release, SlotEvent};
 use crate::slot_sight::{
     AddsSlots, BeginsSlots, ChecksSlots, KeepsSlots, PassesSlots, ShowsSlots, SlotView,
 };
@@ -62,7 +62,7 @@ impl<P: Publishing> SlotHistory<P> {
     ghost use Rattle.publisher_desk.specs.SlotEvents.{acquisitions, events_then, events_with};
     ghost use Rattle.publisher_desk.specs.Viewers.{AcquiresSight, ChangesSight, MayNote};
     ghost use Rattle.publisher_desk.specs.SlotSights.{AddsEvent, AreKnown, BeginsWith, MayHappen, SeesEvents, added, first_in, left, owned_in, shown, slot_sight_of, slot_view};
-    ghost use Rattle.publisher_desk.specs.declared.slot_event.SlotEvent.TheVariants.{Acquired, Confirmed, Released};
+    ghost use Rattle.publisher_desk.specs.declared.slot_event.SlotEvent.TheVariants.{Acquired, Advanced, Confirmed, Released};
 
     /// A history without events.
     pub(crate) fn new(
@@ -202,6 +202,15 @@ impl<P: Publishing> SlotHistory<P> {
         self.take_in(token);
         self.add(&SlotEvent::Acquired(one), number);
         *token = Some(self.give_back());
+    }
+
+    /// The sender of a slot is given the log up to a position.
+    pub(crate) fn advance(&mut self, one: Advance)
+        requires idle { self.old ≡ slot_view true self.old.all [] }
+        ensures log { self.new ≡ slot_view true (self.old.all ++ Advanced one ∷ []) [] }
+    {
+        let count = self.count;
+        self.add(&SlotEvent::Advanced(one), count);
     }
 
     /// The client of the connection that has the slot confirms a position.

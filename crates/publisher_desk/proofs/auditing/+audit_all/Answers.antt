@@ -13,6 +13,6 @@ returns-in-Some-clause-history g t c =
 pub returns-in-Some-clause-logged : goal.returns-in-Some-clause-logged
 returns-in-Some-clause-logged g t c =
     more_logged (setting_in g.P.Publishing.checked) c.args.history.now c.take_in.new.self c.seat.inside.notes.items
-    c.in-Some.rest.now c.args.seats.now (sight_of c.seat.inside.token) c.take_in.ensures
+    c.in-Some.rest.now c.args.seats.now (sight_of c.seat.inside.token) _ c.take_in.ensures
     (search rules ∙ ap (λ (seat : SeatOf). seat ∷ c.in-Some.rest.now) (sym c.seat.view_is))
     c.seat.invariant.1 c.audit_all.ensures.logged

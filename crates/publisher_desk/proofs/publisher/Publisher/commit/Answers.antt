@@ -2,7 +2,7 @@ use Rattle.std.proofs.Common.{ap, arith, sym}
 use Rattle.shard_checker.specs.CheckedView.{setting_in}
 use Rattle.publisher_desk.specs.Receipts.{ReceiptOf}
 use Rattle.publisher_desk.specs.Sights.{sight_of}
-use Rattle.publisher_desk.proofs.LoggedLemmas.{receipt_noted, recorded_begins, refusal_sighted}
+use Rattle.publisher_desk.proofs.LoggedLemmas.{no_events, receipt_noted, recorded_begins, refusal_sighted}
 use Rattle.publisher_desk.proofs.SeatLemmas.{receipt_pushed, seat_stays}
 use Rattle.publisher_desk.proofs.publisher.Publisher.commit.Goals as goal
 
@@ -32,5 +32,5 @@ invariant_of-seat-in-Err g c = (
 
 pub returns-clause-begins : goal.returns-clause-begins
 returns-clause-begins g c =
-    recorded_begins c.args.seat.now c.seat.inside.notes.items (sight_of c.seat.inside.token)
-    (sight_of c.commit.new.token) c.seat.view_is c.in-Ok.receipt c.in-Ok.ensures.seen
+    recorded_begins c.args.seat.now c.seat.inside.notes.items _ (sight_of c.seat.inside.token)
+    (sight_of c.commit.new.token) _ _ c.seat.view_is c.in-Ok.receipt c.in-Ok.ensures.seen (no_events _)

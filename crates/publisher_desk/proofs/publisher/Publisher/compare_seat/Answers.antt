@@ -4,7 +4,7 @@ use Rattle.publisher_desk.specs.Receipts.{ReceiptOf}
 use Rattle.publisher_desk.specs.Sights.{Sees, StartsWith, sight_of}
 use Rattle.publisher_desk.specs.Viewers.{ViewerOf}
 use Rattle.publisher_desk.specs.declared.sight.Sight.{Sight}
-use Rattle.publisher_desk.proofs.LoggedLemmas.{seen_begins, seen_sighted}
+use Rattle.publisher_desk.proofs.LoggedLemmas.{no_events, seen_begins, seen_sighted}
 use Rattle.publisher_desk.proofs.SlotLemmas.{sees_more_log, starts_then}
 use Rattle.publisher_desk.proofs.publisher.Publisher.compare_seat.Goals as goal
 
@@ -20,10 +20,10 @@ invariant_of-seat g c = (
 
 pub returns-clause-kept : goal.returns-clause-kept
 returns-clause-kept g c =
-    seen_begins c.args.seat.now c.seat.inside.notes.items (sight_of c.seat.inside.token)
-    (sight_of c.compare-2.new.token) c.seat.view_is c.compare-2.ensures.seen.log
+    seen_begins c.args.seat.now c.seat.inside.notes.items _ (sight_of c.seat.inside.token)
+    (sight_of c.compare-2.new.token) _ _ c.seat.view_is c.compare-2.ensures.seen.log
     (subst (λ (old : Sight). Sees c.compare-2.ensures.seen.log old (sight_of c.compare-2.new.token))
-    c.compare.ensures.same c.compare-2.ensures.seen.sees)
+    c.compare.ensures.same c.compare-2.ensures.seen.sees) (no_events _)
 
 pub returns-clause-back : goal.returns-clause-back
 returns-clause-back g c =

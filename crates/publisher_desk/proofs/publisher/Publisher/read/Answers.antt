@@ -7,7 +7,7 @@ use Rattle.shard_checker.specs.declared.checked.Checked.{Checked}
 use Rattle.publisher_desk.specs.Seats.{SeatOf}
 use Rattle.publisher_desk.specs.Sights.{sight_of}
 use Rattle.publisher_desk.specs.declared.note.Reading.{Reading}
-use Rattle.publisher_desk.proofs.LoggedLemmas.{none_later, read_as, reading_noted, seen_begins, seen_noted}
+use Rattle.publisher_desk.proofs.LoggedLemmas.{no_events, none_later, read_as, reading_noted, seen_begins, seen_noted}
 use Rattle.publisher_desk.proofs.SeatLemmas.{reading_pushed, seat_stays, up_to_seen}
 use Rattle.publisher_desk.proofs.publisher.Publisher.read.Goals as goal
 
@@ -54,8 +54,9 @@ returns-clause-answer g c =
 
 pub returns-clause-begins : goal.returns-clause-begins
 returns-clause-begins g c =
-    seen_begins c.args.seat.now c.seat.inside.notes.items (sight_of c.seat.inside.token) (sight_of c.look.new.token)
-    c.seat.view_is c.in_ok-number.ensures.seen.log c.in_ok-number.ensures.seen.sees
+    seen_begins c.args.seat.now c.seat.inside.notes.items _ (sight_of c.seat.inside.token)
+    (sight_of c.look.new.token) _ _ c.seat.view_is c.in_ok-number.ensures.seen.log c.in_ok-number.ensures.seen.sees
+    (no_events _)
 
 -- there is no such table
 pub returns-then-table-len-clause-refused : goal.returns-then-table-len-clause-refused

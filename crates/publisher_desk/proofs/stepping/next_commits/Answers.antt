@@ -7,7 +7,7 @@ use Rattle.tables_log.specs.Logs.{entry_at}
 use Rattle.tables_log.specs.Routes.{IsRouted, commit_in, passed_over}
 use Rattle.tables_log.specs.declared.routed.Routed.{Routed}
 use Rattle.publisher_desk.proofs.StepLemmas.{entry_within, last_is, last_within, next_concerns, none_passed, some_numbered}
-use Rattle.publisher_desk.proofs.desk.next_commits.Goals as goal
+use Rattle.publisher_desk.proofs.stepping.next_commits.Goals as goal
 
 pub returns-in-Some-clause-last : goal.returns-in-Some-clause-last
 returns-in-Some-clause-last c =
