@@ -79,9 +79,9 @@ two_within : (before between after rest : List SlotEvent) (first second : SlotEv
     → (before ++ first ∷ between ++ second ∷ after) ++ rest ≡ before ++ first ∷ between ++ second ∷ (after ++ rest)
 two_within before between after rest first second = simp append_assoc
 
-pub had_longer : (all events : List SlotEvent) (held : Hold) (commits : ℕ) → BeginsWith all events
-    → HadSlot events held commits → HadSlot all held commits
-had_longer all events held commits (rest, is) had = record {
+pub had_longer : (all events : List SlotEvent) (held : Hold) (sent commits : ℕ) → BeginsWith all events
+    → HadSlot events held sent commits → HadSlot all held sent commits
+had_longer all events held sent commits (rest, is) had = record {
   before = had.before;
   between = had.between;
   after = had.after ++ rest;
@@ -93,18 +93,19 @@ had_longer all events held commits (rest, is) had = record {
   keep = had.keep;
   found_is = had.found_is;
   confirmed_is = had.confirmed_is;
+  sent_is = had.sent_is;
 }
 
-pub stream_longer : (slot start : Option ℕ) (is_requested : Bool) (number confirmed commits : ℕ)
+pub stream_longer : (slot start : Option ℕ) (is_requested : Bool) (number confirmed sent commits : ℕ)
     (all events : List SlotEvent) → BeginsWith all events
-    → HadStream slot start is_requested number confirmed commits events
-    → HadStream slot start is_requested number confirmed commits all
-stream_longer (Some slot) (Some start) is_requested number confirmed commits all events begins had = record {
+    → HadStream slot start is_requested number confirmed sent commits events
+    → HadStream slot start is_requested number confirmed sent commits all
+stream_longer (Some slot) (Some start) is_requested number confirmed sent commits all events begins had = record {
   found = had.found;
   had = had_longer all events (hold (acquisition slot start is_requested) number had.found (max had.found confirmed))
-      commits begins had.had;
+      sent commits begins had.had;
   from = had.from;
 }
-stream_longer None None is_requested number confirmed commits all events begins had = had
-stream_longer (Some slot) None is_requested number confirmed commits all events begins had = absurd had
-stream_longer None (Some start) is_requested number confirmed commits all events begins had = absurd had
+stream_longer None None is_requested number confirmed sent commits all events begins had = had
+stream_longer (Some slot) None is_requested number confirmed sent commits all events begins had = absurd had
+stream_longer None (Some start) is_requested number confirmed sent commits all events begins had = absurd had

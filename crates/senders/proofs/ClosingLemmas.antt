@@ -32,6 +32,7 @@ use Rattle.senders.specs.CloseReasons.{IsReasonToRefuse, RefusedClose, StartsAre
 use Rattle.senders.specs.Closing.{IsClosed}
 use Rattle.publisher_desk.specs.Logged.{AreSeatsIn, RiseTo}
 use Rattle.publisher_desk.specs.SlotEvents.{acquisitions, no_use}
+use Rattle.publisher_desk.specs.SlotSights.{BeginsWith}
 use Rattle.publisher_desk.specs.Viewers.{ClosingOf, IsSeenIn, log_seen}
 use Rattle.senders.specs.Gathering.{receipts_in, all_receipts, all_readings, numbers_of, IsRisingSeat}
 use Rattle.senders.specs.Histories.{AreInOrder, AreWitnessed, IsLogOfSeats, IsRight}
@@ -39,7 +40,7 @@ use Rattle.senders.specs.Replays.{IsAsLong, IsConfirmedAs, IsUnlikeIn, Replays}
 use Rattle.senders.specs.Reached.{AllEndReached, AreReached, IsOrder, LacksConnection}
 use Rattle.senders.specs.Results.{ServedOf}
 use Rattle.senders.specs.Starts.{AreInTime, AreOrdered, IsStartCause}
-use Rattle.senders.specs.TakenCommits.{IsTaken, IsWhole}
+use Rattle.senders.specs.TakenCommits.{IsTaken, IsComplete}
 use Rattle.senders.specs.declared.close_error.CloseError.{CloseError}
 use Rattle.senders.specs.declared.close_error.CloseError.TheVariants as f
 use Rattle.senders.proofs.KeptConfirmed.{none_in_use}
@@ -168,7 +169,7 @@ module _ (book fresh : Book) (seats : List SeatOf) (order : List ReceiptOf) (ord
 
   module _ (right : All (IsRight (book_setting book) (transactions_of order)) (all_readings seats)) (acquired : ℕ)
       (served : List ServedOf) where
-    taken_cause : ¬ All (IsWhole (book_log book)) served → HasOtherTaken book seats served
+    taken_cause : ¬ All (IsComplete (book_log book)) served → HasOtherTaken book seats served
     unfolding explained_by
     taken_cause short = record {
       order = order;
@@ -178,7 +179,7 @@ module _ (book fresh : Book) (seats : List SeatOf) (order : List ReceiptOf) (ord
     }
 
     module _ (closing : ClosingOf) (told : AreWitnessed (book_checked book) closing acquired seats served book)
-        (whole : All (IsWhole (book_log book)) served) where
+        (complete : All (IsComplete (book_log book)) served) where
       has_starts : (so : ℕ → List ServedOf → Type 0)
           → AreOrdered (length (book_checked book).catalog.subscriptions) acquired served so
           → HasStarts book acquired seats served so
@@ -187,7 +188,7 @@ module _ (book fresh : Book) (seats : List SeatOf) (order : List ReceiptOf) (ord
         order = order;
         explained = explained_by;
         right = right;
-        taken = taken_all book closing acquired seats served told whole;
+        taken = taken_all book closing acquired seats served told complete;
         starts = cause.starts;
         ordered = cause.ordered;
         are = cause.are;
@@ -205,7 +206,7 @@ module _ (book fresh : Book) (seats : List SeatOf) (order : List ReceiptOf) (ord
         order = order;
         explained = explained_by;
         right = right;
-        taken = taken_all book closing acquired seats served told whole;
+        taken = taken_all book closing acquired seats served told complete;
         missing = cause;
       }
       start_cause f.StartLate cause = has_starts (λ slots starts. ¬ AreReached slots starts) cause
@@ -228,6 +229,7 @@ module _ (book fresh : Book) (seats : List SeatOf) (order : List ReceiptOf) (ord
             limited = kept.changes.limit ∙ replayed.limited;
             ordered = subst (AreInOrder seats) same ordered;
             begins = λ place other below. (told.logged.each place other below).begins;
+            shown = told.shown;
             stands = slots_keep_it fresh last (book_slots last) kept.changes (transactions_of closing.log)
                 (subst (λ (log : List ReceiptOf). StandsFor fresh (transactions_of log)) same all.0);
             counted = ap length kept.changes.log ∙ count ∙ ap length same;
@@ -240,7 +242,7 @@ module _ (book fresh : Book) (seats : List SeatOf) (order : List ReceiptOf) (ord
             timed = timed;
             taken = subst (λ (entries : List CommitOf). All (IsTaken entries) served)
                 (sym (kept.changes.log ∙ all.1))
-                (taken_all book closing acquired seats served told whole);
+                (taken_all book closing acquired seats served told complete);
             seen = told.seen;
             had = had_all book closing acquired seats served told;
             starts = times.starts;
@@ -314,14 +316,14 @@ module _ (book fresh : Book) (seats : List SeatOf) (receipts seen : List (Bor Re
           (map (λ (one : Bor Reading). one.now) gathered)
           (map (λ (one : Bor Reading). one.now) looked) all seen_moved right
 
-      pub taken_compared : ¬ All (IsWhole (book_log book)) served → HasOtherTaken book seats served
+      pub taken_compared : ¬ All (IsComplete (book_log book)) served → HasOtherTaken book seats served
       unfolding seen_count seen_ordered seen_long seen_right
       taken_compared short =
           taken_cause book fresh seats (map (λ (one : Bor ReceiptOf). one.now) seen) seen_ordered seen_long replayed
           seen_count seen_right acquired served short
 
       module _ (slots : ℕ) (slots_are : slots ≡ length (book_checked book).catalog.subscriptions)
-          (whole : All (IsWhole (book_log book)) served) (closing : ClosingOf)
+          (complete : All (IsComplete (book_log book)) served) (closing : ClosingOf)
           (told : AreWitnessed (book_checked book) closing acquired seats served book) where
         pub start_compared : {A : Type 0} (result : Result A CloseError)
             → IfErr result (IsStartCause slots (book_slots book) acquired served)
@@ -330,7 +332,7 @@ module _ (book fresh : Book) (seats : List SeatOf) (receipts seen : List (Bor Re
         start_compared (Ok done) cause = tt
         start_compared (Err error) cause =
             start_cause book fresh seats (map (λ (one : Bor ReceiptOf). one.now) seen) seen_ordered seen_long replayed
-            seen_count seen_right acquired served closing told whole error
+            seen_count seen_right acquired served closing told complete error
             (subst (λ n. IsStartCause n (book_slots book) acquired served error) slots_are cause)
 
         pub closed_compared : {A : Type 0} (result : Result A CloseError)
@@ -341,7 +343,7 @@ module _ (book fresh : Book) (seats : List SeatOf) (receipts seen : List (Bor Re
         unfolding seen_count seen_ordered seen_long seen_right
         closed_compared (Ok done) times confirmed forward timed =
             is_closed book fresh seats (map (λ (one : Bor ReceiptOf). one.now) seen) seen_ordered seen_long replayed
-            seen_count seen_right acquired served closing told whole
+            seen_count seen_right acquired served closing told complete
             (subst (λ n. AreInTime n (book_slots book) acquired served) slots_are times) confirmed forward timed
         closed_compared (Err error) times confirmed forward timed = tt
 
@@ -376,6 +378,7 @@ module _ (checked : CheckedOf) (limit all left : ℕ) (closing : ClosingOf) (sea
     (stands : StandsFor book (transactions_of closing.log))
     (counted : IsCounted all left seats (length closing.log))
     (in_log : AreSeatsIn (setting_in checked) closing.log seats)
+    (shown : All (λ (seat : SeatOf). BeginsWith closing.events seat.events) seats)
     (seen : All (λ (one : ServedOf). IsSeenIn closing one.viewer) served) where
   log_is : book_log book ≡ log_seen checked closing.log
   log_is = stands.log
@@ -402,6 +405,7 @@ module _ (checked : CheckedOf) (limit all left : ℕ) (closing : ClosingOf) (sea
         omega (arith, long, limited, items, book.room);
     counted = counted;
     logged = in_log;
+    shown = shown;
     seen = seen;
     reason = why;
   }

@@ -1,16 +1,18 @@
 -- Up to where a client confirmed the log, after each piece and at the end.
-use Rattle.std.proofs.Common.{◌≡◌, ◌≢◌, ℕ, ◌≤◌, List, [], ◌∷◌, ◌++◌, refl, sym, ◌∙◌, ap, subst, append-nil}
+use Rattle.std.proofs.Common.{◌≡◌, ◌≢◌, ℕ, ◌≤◌, List, [], ◌∷◌, ◌++◌, refl, sym, ◌∙◌, ap, subst, append-nil, append_assoc}
 use Rattle.std.specs.Prelude.{Bool, Option, Some, None, Result, Ok, Err}
 use Rattle.copy_frames.specs.Frames.{fault_in}
 use Rattle.copy_frames.specs.declared.frame.Frame.{Frame}
 use Rattle.copy_both.specs.ConfirmedFrames.{AreUnheard, HasConfirmedAll, HasConfirmedIf, StopsAt, UnheardAt}
 use Rattle.copy_both.specs.HeardFrames.{frames_in}
-use Rattle.copy_both.specs.Hearing.{first_sent}
 use Rattle.copy_both.specs.declared.heard.Heard.{Heard}
 use Rattle.copy_both.specs.declared.link_fault.LinkFault.{LinkFault}
 use Rattle.copy_both.specs.declared.link_fault.LinkFault.TheVariants as fault
 use Rattle.copy_both.proofs.ConfirmedHeard.{stops_lower, stops_other}
-use Rattle.senders.specs.Confirming.{ConfirmsBy, FitsEnd, ReportsIf, StopsFor}
+use Rattle.publisher_desk.specs.SlotSights.{BeginsWith}
+use Rattle.publisher_desk.specs.declared.slot_event.SlotEvent.{SlotEvent}
+use Rattle.publisher_desk.specs.declared.slot_event.SlotEvent.TheVariants.{Confirmed}
+use Rattle.senders.specs.Confirming.{ConfirmsBy, FitsEnd, HasReported, IsRefusedAt, ReportsIf, StopsFor}
 use Rattle.senders.specs.Refusing.{cause_by, fault_by, fault_after}
 use Rattle.senders.specs.Running as running
 use Rattle.senders.specs.Running.{IsEndOf, Memory, Whole, Writing}
@@ -48,42 +50,53 @@ unheard_lower low high rest (Err (fault.BadStart state)) less unheard =
 unheard_lower low high rest (Err fault.Closed) less unheard =
     stops_other (Some fault.Closed) low high (λ same. cc) rest unheard
 
-pub confirms_lower : (started : Option (ℕ × ℕ)) (frames : List Frame) (high : ℕ) (heard : Result Heard LinkFault)
-    (confirmed : ℕ)
-    → (heard ≡ Err fault.StatusAhead → (s : ℕ × ℕ) → started ≡ Some s → first_sent s.1 ≤ high)
-    → HasConfirmedIf started frames high heard confirmed → ConfirmsBy started frames heard confirmed
-confirms_lower None frames high heard confirmed less has = has
-confirms_lower (Some s) frames high heard confirmed less has = record {
-  first = has.first;
-  front = has.front;
-  rest = has.rest;
-  frames_are = has.frames_are;
-  statuses = has.statuses;
-  confirmed_is = has.confirmed_is;
-  unheard = unheard_lower (first_sent s.1) high has.rest heard (λ ahead. less ahead s refl) has.unheard;
+pub confirms_lower : (started : Option (ℕ × ℕ)) (number : ℕ) (events : List SlotEvent) (frames : List Frame)
+    (low high : ℕ) (heard : Result Heard LinkFault) (confirmed : ℕ)
+    → (heard ≡ Err fault.StatusAhead → (s : ℕ × ℕ) → started ≡ Some s
+    → (low ≤ high) × IsRefusedAt s number events low)
+    → HasConfirmedIf started frames high heard confirmed → ConfirmsBy started number events frames heard confirmed
+confirms_lower None number events frames low high heard confirmed less has = has
+confirms_lower (Some s) number events frames low high heard confirmed less has = record {
+  sent = low;
+  refused = λ ahead. (less ahead s refl).1;
+  has = record {
+    first = has.first;
+    front = has.front;
+    rest = has.rest;
+    frames_are = has.frames_are;
+    statuses = has.statuses;
+    confirmed_is = has.confirmed_is;
+    unheard = unheard_lower low high has.rest heard (λ ahead. (less ahead s refl).0) has.unheard;
+  };
 }
 
 -- nothing more was heard, since memory was refused
-pub confirms_nothing : (started : Option (ℕ × ℕ)) (frames all more : List Frame) (confirmed : ℕ)
-    → all ≡ frames ++ more → HasConfirmedAll started frames confirmed
-    → ConfirmsBy started all (Err fault.OutOfMemory) confirmed
-confirms_nothing None frames all more confirmed split has = has
-confirms_nothing (Some s) frames all more confirmed split has = record {
-  first = has.first;
-  front = has.others;
-  rest = more;
-  frames_are = split ∙ ap (λ (x : List Frame). x ++ more) has.frames_are;
-  statuses = has.statuses;
-  confirmed_is = has.confirmed_is;
-  unheard = tt;
+pub confirms_nothing : (started : Option (ℕ × ℕ)) (number : ℕ) (events : List SlotEvent)
+    (frames all more : List Frame) (confirmed : ℕ) → all ≡ frames ++ more → HasConfirmedAll started frames confirmed
+    → ConfirmsBy started number events all (Err fault.OutOfMemory) confirmed
+confirms_nothing None number events frames all more confirmed split has = has
+confirms_nothing (Some s) number events frames all more confirmed split has = record {
+  sent = 0;
+  refused = λ ahead. cc;
+  has = record {
+    first = has.first;
+    front = has.others;
+    rest = more;
+    frames_are = split ∙ ap (λ (x : List Frame). x ++ more) has.frames_are;
+    statuses = has.statuses;
+    confirmed_is = has.confirmed_is;
+    unheard = tt;
+  };
 }
 
 -- all frames were heard
-pub confirms_all : (started : Option (ℕ × ℕ)) (frames : List Frame) (heard : Heard) (confirmed : ℕ)
-    → heard.ended ≡ None → ConfirmsBy started frames (Ok heard) confirmed → HasConfirmedAll started frames confirmed
-confirms_all None frames heard confirmed on has = has
-confirms_all (Some s) frames heard confirmed on has =
-    let none : has.rest ≡ [] = subst (UnheardAt (first_sent s.1) has.rest) on has.unheard in
+pub confirms_all : (started : Option (ℕ × ℕ)) (number : ℕ) (events : List SlotEvent) (frames : List Frame)
+    (heard : Heard) (confirmed : ℕ) → heard.ended ≡ None → ConfirmsBy started number events frames (Ok heard) confirmed
+    → HasConfirmedAll started frames confirmed
+confirms_all None number events frames heard confirmed on has = has
+confirms_all (Some s) number events frames heard confirmed on from =
+    let has = from.has in
+    let none : has.rest ≡ [] = subst (UnheardAt from.sent has.rest) on has.unheard in
     record {
       first = has.first;
       others = has.front;
@@ -100,7 +113,7 @@ stops_ended : (first : ℕ) (rest : List Frame) (ended : Option ℕ) → Unheard
 stops_ended first rest None none = subst (StopsAt None first) (sym none) tt
 stops_ended first rest (Some kind) stops = stops.1
 
-stops_by : (start : ℕ) (rest : List Frame) (f : LinkFault) → AreUnheard (first_sent start) rest (Err f)
+stops_by : (start : ℕ) (rest : List Frame) (f : LinkFault) → AreUnheard start rest (Err f)
     → StopsFor (Some f) start rest
 stops_by start rest fault.OutOfMemory unheard = tt
 stops_by start rest fault.StatusAhead unheard = unheard
@@ -110,15 +123,55 @@ stops_by start rest (fault.Unexpected byte) unheard = unheard
 stops_by start rest (fault.BadStart state) unheard = unheard
 stops_by start rest fault.Closed unheard = unheard
 
+its_fault : (f g : LinkFault) → ◌≡◌ {A = Option LinkFault} (Some f) (Some g)
+    → ◌≡◌ {A = Result Heard LinkFault} (Err f) (Err g)
+its_fault f g same = let alike : f ≡ g = cc in ap (λ (x : LinkFault). Err x) alike
+
+-- of more events
+refused_more : (started : ℕ × ℕ) (number : ℕ) (events later : List SlotEvent) (sent : ℕ) → BeginsWith later events
+    → IsRefusedAt started number events sent → IsRefusedAt started number later sent
+refused_more started number events later sent begins at = record {
+  before = at.before;
+  one = at.one;
+  after = at.after ++ begins.0;
+  events_are = begins.1 ∙ (ap (λ (list : List SlotEvent). list ++ begins.0) at.events_are
+      ∙ append_assoc at.before (Confirmed at.one ∷ at.after) begins.0);
+  ahead = at.ahead;
+  slot_is = at.slot_is;
+  own = at.own;
+  sent_is = at.sent_is;
+}
+
+pub reports_more : (bytes : List ℕ) (started : ℕ × ℕ) (number : ℕ) (events later : List SlotEvent)
+    (found : Option LinkFault) (confirmed : ℕ) → BeginsWith later events
+    → HasReported bytes started number events found confirmed
+    → HasReported bytes started number later found confirmed
+reports_more bytes started number events later found confirmed begins has = record {
+  first = has.first;
+  front = has.front;
+  rest = has.rest;
+  frames_are = has.frames_are;
+  statuses = has.statuses;
+  confirmed_is = has.confirmed_is;
+  sent = has.sent;
+  refused = λ ahead. refused_more started number events later has.sent begins (has.refused ahead);
+  stops = has.stops;
+  whole = has.whole;
+}
+
 -- a frame ended it
-pub reports_frame : (started : Option (ℕ × ℕ)) (bytes : List ℕ) (heard : Heard) (kind confirmed : ℕ)
-    → heard.ended ≡ Some kind → ConfirmsBy started (frames_in bytes) (Ok heard) confirmed
-    → ReportsIf started bytes None confirmed
-reports_frame None bytes heard kind confirmed some has = has
-reports_frame (Some s) bytes heard kind confirmed some has =
-    let unheard : UnheardAt (first_sent s.1) has.rest (Some kind) =
-    subst (UnheardAt (first_sent s.1) has.rest) some has.unheard in
+pub reports_frame : (started : Option (ℕ × ℕ)) (number : ℕ) (events : List SlotEvent) (bytes : List ℕ) (heard : Heard)
+    (kind confirmed : ℕ) → heard.ended ≡ Some kind
+    → ConfirmsBy started number events (frames_in bytes) (Ok heard) confirmed
+    → ReportsIf started number events bytes None confirmed
+reports_frame None number events bytes heard kind confirmed some has = has
+reports_frame (Some s) number events bytes heard kind confirmed some from =
+    let has = from.has in
+    let unheard : UnheardAt from.sent has.rest (Some kind) =
+    subst (UnheardAt from.sent has.rest) some has.unheard in
     record {
+      sent = from.sent;
+      refused = λ ahead. absurd (no_fault_ahead ahead);
       first = has.first;
       front = has.front;
       rest = has.rest;
@@ -130,25 +183,31 @@ reports_frame (Some s) bytes heard kind confirmed some has =
     }
 
 -- a fault did
-pub reports_fault : (started : Option (ℕ × ℕ)) (bytes : List ℕ) (f : LinkFault) (confirmed : ℕ)
-    → ConfirmsBy started (frames_in bytes) (Err f) confirmed → ReportsIf started bytes (Some f) confirmed
-reports_fault None bytes f confirmed has = has
-reports_fault (Some s) bytes f confirmed has = record {
-  first = has.first;
-  front = has.front;
-  rest = has.rest;
-  frames_are = has.frames_are;
-  statuses = has.statuses;
-  confirmed_is = has.confirmed_is;
-  stops = stops_by s.1 has.rest f has.unheard;
+pub reports_fault : (started : Option (ℕ × ℕ)) (number : ℕ) (events : List SlotEvent) (bytes : List ℕ)
+    (f : LinkFault) (confirmed : ℕ) → ConfirmsBy started number events (frames_in bytes) (Err f) confirmed
+    → ReportsIf started number events bytes (Some f) confirmed
+reports_fault None number events bytes f confirmed has = has
+reports_fault (Some s) number events bytes f confirmed from = record {
+  sent = from.sent;
+  refused = λ ahead. from.refused (its_fault f fault.StatusAhead ahead);
+  first = from.has.first;
+  front = from.has.front;
+  rest = from.has.rest;
+  frames_are = from.has.frames_are;
+  statuses = from.has.statuses;
+  confirmed_is = from.has.confirmed_is;
+  stops = stops_by from.sent from.has.rest f from.has.unheard;
   whole = λ none sound. absurd (let no : Some f ≡ None = sound in cc);
 }
 
 -- all frames were heard, and nothing has a fault
-pub reports_all : (started : Option (ℕ × ℕ)) (bytes : List ℕ) (confirmed : ℕ) → fault_in 65536 bytes ≡ None
-    → HasConfirmedAll started (frames_in bytes) confirmed → ReportsIf started bytes None confirmed
-reports_all None bytes confirmed good has = has
-reports_all (Some s) bytes confirmed good has = record {
+pub reports_all : (started : Option (ℕ × ℕ)) (number : ℕ) (events : List SlotEvent) (bytes : List ℕ) (confirmed : ℕ)
+    → fault_in 65536 bytes ≡ None → HasConfirmedAll started (frames_in bytes) confirmed
+    → ReportsIf started number events bytes None confirmed
+reports_all None number events bytes confirmed good has = has
+reports_all (Some s) number events bytes confirmed good has = record {
+  sent = 0;
+  refused = λ ahead. absurd (no_fault_ahead ahead);
   first = has.first;
   front = has.others;
   rest = [];
@@ -186,7 +245,7 @@ link_fits why failed is f (Writing same fails) link other = absurd (let no : end
 link_fits why failed is f (Memory same) link other =
     absurd (let both : end.Link fault.OutOfMemory ≡ end.Link f = sym same ∙ link in
     let alike : fault.OutOfMemory ≡ f = cc in other (sym alike))
-link_fits why failed is f (Whole same) link other = absurd (let no : end.Finished ≡ end.Link f = sym same ∙ link in cc)
+link_fits why failed is f (Whole ending some same) link other = absurd (let no : end.Finished ≡ end.Link f = sym same ∙ link in cc)
 link_fits why failed is f (running.Heard ending some same) link other =
     ap fault_after some ∙ fits_cause ending f (sym same ∙ link)
 

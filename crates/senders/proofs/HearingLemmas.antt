@@ -14,7 +14,7 @@ use Rattle.tables_log.specs.declared.slots.Slot.{Slot}
 use Rattle.tables_log.proofs.StandLemmas.{each_is_logged}
 use Rattle.copy_frames.specs.Frames.{cut, frames_of, rest_of}
 use Rattle.copy_both.specs.Ears.{ear_confirmed, ear_refusal, ear_started}
-use Rattle.copy_both.specs.HeardFrames.{AsksFor, BooksOf, HasLinkFault, HasHeard, Explains, IsAnswered, IsBookFor, frames_in, reach_of, sent_then, IsStartedBy}
+use Rattle.copy_both.specs.HeardFrames.{AsksFor, BooksOf, HasLinkFault, HasHeard, Explains, IsAnswered, IsBookFor, SentNone, frames_in, reach_of, sent_then, IsStartedBy}
 use Rattle.copy_both.specs.declared.ear.Ear.{Ear}
 use Rattle.copy_both.specs.declared.heard.Heard.{Heard}
 use Rattle.copy_both.specs.declared.link_fault.LinkFault.{LinkFault}
@@ -25,20 +25,25 @@ use Rattle.copy_both.proofs.PiecesHeard.{asks_stay, frames_more, late_starts_are
 use Rattle.copy_both.specs.Hearing.{ServedFrom, first_sent}
 use Rattle.copy_both.proofs.StartBounds.{faultless_start, is_begun}
 use Rattle.publisher_desk.specs.Receipts.{transactions_of}
-use Rattle.publisher_desk.specs.SlotEvents.{confirmed_after, use_after}
+use Rattle.publisher_desk.specs.SlotEvents.{confirmed_after, events_then, events_with, use_after}
+use Rattle.publisher_desk.specs.declared.slot_event.SlotEvent.{SlotEvent}
+use Rattle.publisher_desk.specs.declared.slot_event.SlotEvent.TheVariants.{Confirmed}
+use Rattle.publisher_desk.proofs.EventLemmas.{use_more}
 use Rattle.publisher_desk.specs.Viewers.{IsUsed, SeesMore, ViewerOf}
 use Rattle.publisher_desk.specs.declared.connection_state.ConnectionState.{ConnectionState}
 use Rattle.publisher_desk.specs.declared.slot_event.Acquisition.{Acquisition}
+use Rattle.publisher_desk.specs.declared.slot_event.Confirmation.{Confirmation}
 use Rattle.senders.specs.Hearing.{HearsPiece, IsExplained, IsSentFrom, StaysStarted, sent_after, sent_by}
-use Rattle.senders.specs.Confirming.{ConfirmsBy}
-use Rattle.senders.specs.Listening.{AcquiresFor, HasListened, HeardPiece, SaysOfPiece, SaysRequested, piece_of}
-use Rattle.senders.specs.Results.{StartsFrom, books_seen}
+use Rattle.senders.specs.Confirming.{ConfirmsBy, IsRefusedAt}
+use Rattle.senders.specs.Listening.{AcquiresFor, HasListened, HeardPiece, NotesAhead, RefusesNow, SaysOfPiece, SaysRequested, piece_of}
+use Rattle.senders.specs.Results.{StartsFrom, book_seen, books_seen}
 use Rattle.senders.specs.declared.listener.Listened.{Listened}
 use Rattle.senders.proofs.SeenLogs.{AreMore, books_more, heard_still, sees_same}
 use Rattle.senders.specs.declared.listener.Listener.{Listener}
 use Rattle.copy_both.proofs.RaisedSlots.{Raises, hearing_raises}
 use Rattle.senders.proofs.ConfirmingLemmas.{confirms_lower, confirms_nothing}
 use Rattle.senders.proofs.HoldingLemmas.{holding_after, mine_after, use_among}
+use Rattle.senders.proofs.RefusedStatuses.{refused_then}
 
 -- ---- a piece, under the lock
 
@@ -140,25 +145,21 @@ module _ (checked : CheckedOf) (was now : ViewerOf) (more : AreMore (books_seen 
       → SaysRequested (bytes ++ piece_of before) after
   says_requested bytes has = says_of_piece bytes has (ear_started before.ear) refl
 
-  -- the log has the start where a status is ahead
-  sent_ahead : (bytes : List ℕ) → HasListened checked was bytes before → heard ≡ Err fault.StatusAhead
-      → (s : ℕ × ℕ) → ear_started after.ear ≡ Some s → first_sent s.1 ≤ reach_of before.ear after.ear old sent
-  sent_ahead bytes has ahead s some =
-      let on = pieces_are_heard checked known bytes (piece_of before) before.ear after.ear old new sent heard
-      (has_now bytes has.heard) is did.answer did.left in
-      let from : IsSentFrom (Some s) (sent_then (ear_started before.ear) sent (ear_started after.ear)) =
-      subst (λ (o : Option (ℕ × ℕ)). IsSentFrom o (sent_then (ear_started before.ear) sent (ear_started after.ear))) some
-      (sent_from (ear_started before.ear) (ear_started after.ear) sent
-      (from_start (ear_started before.ear) connections) on.stays) in
-      let reaches : IsSentFrom (Some s) (end_lsn_of (length (book_log old))) =
-      subst (λ (o : Option (ℕ × ℕ)). IsSentFrom o (end_lsn_of (length (book_log old)))) some (did.reaches ahead) in
-      omega (arith, from, reaches)
+  -- what the client had been sent when a status was refused, which the log has
+  abbrev sent_now : ℕ
+  sent_now = sent_then (ear_started before.ear) sent (ear_started after.ear)
 
-  pub confirms_of : (bytes : List ℕ) → HasListened checked was bytes before
-      → ConfirmsBy (ear_started after.ear) (frames_in (bytes ++ piece_of before)) heard (ear_confirmed after.ear)
-  confirms_of bytes has =
-      confirms_lower (ear_started after.ear) (frames_in (bytes ++ piece_of before))
-      (reach_of before.ear after.ear old sent) heard (ear_confirmed after.ear) (sent_ahead bytes has)
+  abbrev IsRefusedThen : Type 0
+  IsRefusedThen = heard ≡ Err fault.StatusAhead → (s : ℕ × ℕ) → ear_started after.ear ≡ Some s
+      → (sent_now ≤ end_lsn_of (length (book_log old))) × IsRefusedAt s after.number now.events sent_now
+
+  pub confirms_of : (bytes : List ℕ) → HasListened checked was bytes before → IsRefusedThen
+      → ConfirmsBy (ear_started after.ear) after.number now.events (frames_in (bytes ++ piece_of before)) heard
+      (ear_confirmed after.ear)
+  confirms_of bytes has refused =
+      confirms_lower (ear_started after.ear) after.number now.events (frames_in (bytes ++ piece_of before)) sent_now
+      (reach_of before.ear after.ear old sent) heard (ear_confirmed after.ear)
+      (λ ahead s some. let at = refused ahead s some in let low = at.0 in (omega (arith, low), at.1))
       (confirmations_are_heard checked known bytes (piece_of before) before.ear after.ear old new sent heard
       (has_now bytes has.heard) did.answer did.left has.confirmed)
 
@@ -178,11 +179,48 @@ started_exists checked viewer bytes listener slots each has started is =
     let low = slice_get_within (book_slots asks.book) started.0 startable.slot startable.exists in
     let its = asks.is.each in omega (arith, low, its, each)
 
+both_hold : (heard : Result Heard LinkFault) (P Q : LinkFault → Type 0) → IfErr heard P → IfErr heard Q
+    → IfErr heard (λ fault. P fault × Q fault)
+both_hold (Ok it) P Q first second = tt
+both_hold (Err fault) P Q first second = (first, second)
+
+-- an ear that has started no stream has heard no frame, whatever books its publisher has had
+fresh_heard : (checked : CheckedOf) (one other : BooksOf) (bytes : List ℕ) (ear : Ear) → ear_started ear ≡ None
+    → HasHeard checked one bytes ear → HasHeard checked other bytes ear
+fresh_heard checked one other bytes ear idle has = record {
+  checked_is = has.checked_is;
+  phase_is = has.phase_is;
+  held = has.held;
+  good = has.good;
+  started = subst (IsStartedBy checked other (frames_in bytes)) (sym idle)
+      (subst (IsStartedBy checked one (frames_in bytes)) idle has.started);
+}
+
+unstarted_before : (was now : Option (ℕ × ℕ)) → ((started : ℕ × ℕ) → was ≡ Some started → now ≡ Some started)
+    → now ≡ None → was ≡ None
+unstarted_before None now stays none = refl
+unstarted_before (Some started) now stays none =
+    absurd (let both : Some started ≡ None = sym (stays started refl) ∙ none in cc)
+
+-- no slot was acquired without a stream
+unacquired : (before after : Listener) (number : ℕ) (acquired : Option Acquisition)
+    → AcquiresFor before after number acquired → ear_started after.ear ≡ None → acquired ≡ None
+unacquired before after number None acquires none = refl
+unacquired before after number (Some one) acquires none =
+    absurd (let both : Some (one.slot, one.start) ≡ None = sym acquires.1 ∙ none in cc)
+
+same_use : (acquired : Option Acquisition) (confirmed : Option Confirmation) (events now : List SlotEvent)
+    → now ≡ events_then confirmed (events_with acquired events) → acquired ≡ None → use_after now ≡ use_after events
+same_use None None events now is none = ap use_after is
+same_use None (Some one) events now is none = ap use_after is ∙ use_more events (Confirmed one)
+same_use (Some it) confirmed events now is none = absurd cc
+
 -- what a listener does with the book that it is lent
 abbrev pub ListenerDid : Listener → Listener → Book → Book → List ConnectionState → List ConnectionState → ℕ
-    → Option Acquisition → Listened → Type 0
-ListenerDid before after old new connections left number acquired listened =
+    → Option Acquisition → Option Confirmation → Listened → Type 0
+ListenerDid before after old new connections left number acquired confirmed listened =
     HeardPiece before after old new connections listened.heard × AcquiresFor before after number acquired
+    × NotesAhead (ear_started after.ear) listened.heard confirmed
 
 module _ (checked : CheckedOf) (was now : ViewerOf) (sees : SeesMore was now) (before after : Listener) (slot : Option ℕ)
     (listened : Listened) (used : IsUsed ListenerDid checked was now before after listened slot) where
@@ -194,12 +232,14 @@ module _ (checked : CheckedOf) (was now : ViewerOf) (sees : SeesMore was now) (b
     stands = used.lent.stands;
     begins = record { later = []; log_is = used.log_is ∙ sym (append-nil used.lent.transactions) };
     used = use_after used.events;
+    enough = omega arith;
     among = use_among used.acquired used.confirmed used.events now.events used.events_are;
     slots_are = used.used;
   }
 
-  raised : Raises (ear_started before.ear) (ear_started after.ear) (book_slots used.lent.old)
-      (book_slots used.lent.new) (ear_confirmed before.ear) (ear_confirmed after.ear)
+  raised : Raises (sent_by (ear_started before.ear) used.lent.connections) (ear_started before.ear)
+      (ear_started after.ear) (book_slots used.lent.old) (book_slots used.lent.new) (ear_confirmed before.ear)
+      (ear_confirmed after.ear)
   raised = hearing_raises before.ear after.ear used.lent.old used.lent.new (piece_of before)
       (sent_by (ear_started before.ear) used.lent.connections) listened.heard used.lent.does.0.left
 
@@ -207,14 +247,52 @@ module _ (checked : CheckedOf) (was now : ViewerOf) (sees : SeesMore was now) (b
   heard_used = hears_piece checked was now (books_more was now sees) before after used.lent.old used.lent.new
       used.lent.connections listened.heard book_was used.lent.does.0
 
+  -- the book was the one that the publisher still has
+  book_last : ear_started after.ear ≡ None → IsBookFor checked (book_seen now) used.lent.old
+  book_last none = record {
+    named = used.lent.named;
+    each = used.each;
+    transactions = used.lent.transactions;
+    stands = used.lent.stands;
+    begins = record { later = []; log_is = used.log_is ∙ sym (append-nil used.lent.transactions) };
+    enough = let same = ap length used.log_is in omega (arith, same);
+    used = use_after used.events;
+    among = (
+      0,
+      omega arith,
+      same_use used.acquired used.confirmed used.events now.events used.events_are
+          (unacquired before after used.number used.acquired used.lent.does.1 none),
+    );
+    slots_are = used.used;
+  }
+
+  refuses_used : (bytes : List ℕ) → HasListened checked was bytes before
+      → RefusesNow checked now (bytes ++ piece_of before) after listened.heard
+  unfolding book_last
+  refuses_used bytes has none =
+      let on = pieces_are_heard checked (book_seen now) bytes (piece_of before) before.ear after.ear used.lent.old
+      used.lent.new (sent_by (ear_started before.ear) used.lent.connections) listened.heard
+      (fresh_heard checked (books_seen was) (book_seen now) bytes before.ear
+      (unstarted_before (ear_started before.ear) (ear_started after.ear) raised.stays none) has.heard)
+      (book_last none) used.lent.does.0.answer used.lent.does.0.left in
+      both_hold listened.heard
+      (IsAnswered checked (book_seen now) (frames_in (bytes ++ piece_of before)) (ear_refusal after.ear))
+      (SentNone (frames_in (bytes ++ piece_of before))) on.answered (on.none none)
+
   pub says_used : SaysOfPiece checked was now (piece_of before) before after listened.heard
   says_used = record {
     each = λ bytes has. says_requested checked was now (books_more was now sees) before after used.lent.old
         used.lent.new used.lent.connections listened.heard book_was used.lent.does.0 bytes has;
     confirms = λ bytes has. confirms_of checked was now (books_more was now sees) before after used.lent.old
-        used.lent.new used.lent.connections listened.heard book_was used.lent.does.0 bytes has;
+        used.lent.new used.lent.connections listened.heard book_was used.lent.does.0 bytes has
+        (λ ahead s some. refused_then before after used.events now.events used.acquired used.confirmed was.held
+        used.number used.lent.connections (length (book_log used.lent.old)) listened.heard used.lent.does.1
+        used.lent.does.2 raised.stays used.had used.mine used.number_is used.events_are used.sent used.ends
+        has.holding used.lent.does.0.reaches ahead s some);
+    refuses = refuses_used;
     holding = λ bytes has. holding_after before after (book_slots used.lent.old) (book_slots used.lent.new) used.events
-        now.events was.held now.held used.number used.found used.known used.had raised used.lent.does.0.compares.stays
+        now.events was.held now.held used.number used.found used.known used.had _ raised
+        used.lent.does.0.compares.stays
         used.acquired used.lent.does.1
         (λ started is. started_exists checked was bytes before (book_slots used.lent.old) used.each has started is)
         (λ none. subst (λ (o : Option (ℕ × ℕ)). HasConfirmedAll o (frames_in bytes) (ear_confirmed before.ear)) none
@@ -260,9 +338,11 @@ module _ (checked : CheckedOf) (was now : ViewerOf) (same : now ≡ was) (before
               requests_stay checked (books_seen was) bytes (piece_of before) before.ear slot start has.heard
               (has.requested slot start started says);
           confirms = λ bytes has.
-              confirms_nothing (ear_started before.ear) (frames_in bytes) (frames_in (bytes ++ piece_of before))
+              confirms_nothing (ear_started before.ear) before.number was.events (frames_in bytes)
+              (frames_in (bytes ++ piece_of before))
               (frames_of (cut 65536 (rest_of (cut 65536 bytes) ++ piece_of before))) (ear_confirmed before.ear)
               (frames_more checked (books_seen was) bytes (piece_of before) before.ear has.heard) has.confirmed;
+          refuses = λ bytes has none. (tt, tt);
           holding = λ bytes has. has.holding;
           mine = λ has. has;
           sees = sees_same was;

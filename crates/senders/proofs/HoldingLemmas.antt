@@ -6,13 +6,13 @@ use Rattle.tables_log.specs.declared.slots.Slot.{Slot}
 use Rattle.copy_both.specs.Ears.{ear_confirmed, ear_started}
 use Rattle.publisher_desk.specs.SlotEvents.{AreConfirmed, confirmed_after, events_then, events_with, no_use, use_after, use_by, use_from, uses_from, uses_in}
 use Rattle.publisher_desk.specs.SlotSights.{MayHaveSlot, hold}
-use Rattle.publisher_desk.specs.Viewers.{Holds, HoldsIf, hold_at, held_with}
+use Rattle.publisher_desk.specs.Viewers.{HoldsFor, HoldsIf, hold_at, held_with}
 use Rattle.publisher_desk.specs.declared.slot_event.Acquisition.{Acquisition}
 use Rattle.publisher_desk.specs.declared.slot_event.Confirmation.{Confirmation}
 use Rattle.publisher_desk.specs.declared.slot_event.SlotEvent.{SlotEvent}
 use Rattle.publisher_desk.specs.declared.slot_event.SlotEvent.TheVariants.{Acquired, Confirmed}
 use Rattle.publisher_desk.specs.declared.slot_sight.Hold.{Hold}
-use Rattle.senders.specs.Listening.{AcquiresFor, HoldsStream, HoldsStreamOf, slot_of}
+use Rattle.senders.specs.Listening.{AcquiresFor, HoldsStream, HoldsStreamOf}
 use Rattle.senders.specs.Results.{StartsFrom, acquisition}
 use Rattle.senders.specs.declared.listener.Listener.{Listener}
 use Rattle.copy_both.proofs.RaisedSlots.{Raises}
@@ -52,8 +52,8 @@ confirmed_for events was mine has is = (subst (MayHaveSlot events) is has).confi
 module _ (before after : Listener) (old new : List Slot) (events later : List SlotEvent) (was now : Option Hold)
     (number : ℕ) (found : AreConfirmed (confirmed_after events) old) (known : AreConfirmed (confirmed_after later) new)
     (had : MayHaveSlot events was)
-    (raises : Raises (ear_started before.ear) (ear_started after.ear) old new (ear_confirmed before.ear)
-    (ear_confirmed after.ear))
+    (sent : ℕ) (raises : Raises sent (ear_started before.ear) (ear_started after.ear) old new
+    (ear_confirmed before.ear) (ear_confirmed after.ear))
     (said : (started : ℕ × ℕ) → ear_started before.ear ≡ Some started → after.is_requested ≡ before.is_requested) where
   -- what it confirms then
   moved : (slot position : ℕ) → confirmed_after events slot ≡ position
@@ -129,31 +129,35 @@ module _ (before after : Listener) (old new : List Slot) (events later : List Sl
       (starts_on one acquires (none acquires.0) (from acquires.0 one.slot one.start acquires.1) holds_is)
 
 -- it has the slot of the stream that was started
-still_has : (slot : ℕ) (known : ℕ → ℕ) (was now : Option Hold) → now ≡ hold_at known was → Holds was slot
-    → Holds now slot
-still_has slot known was now is has = record {
+still_has : (stream : ℕ × ℕ) (known : ℕ → ℕ) (was now : Option Hold) → now ≡ hold_at known was → HoldsFor was stream
+    → HoldsFor now stream
+still_has stream known was now is has = record {
   mine = hold has.mine.acquisition has.mine.number has.mine.found (known has.mine.acquisition.slot);
   held_is = is ∙ ap (hold_at known) has.held_is;
   slot_is = has.slot_is;
+  start_is = has.start_is;
 }
 
-still_has_if : (slot : Option ℕ) (known : ℕ → ℕ) (was now : Option Hold) → now ≡ hold_at known was → HoldsIf was slot
-    → HoldsIf now slot
+still_has_if : (stream : Option (ℕ × ℕ)) (known : ℕ → ℕ) (was now : Option Hold) → now ≡ hold_at known was
+    → HoldsIf was stream → HoldsIf now stream
 still_has_if None known was now is has = tt
-still_has_if (Some slot) known was now is has = still_has slot known was now is has
+still_has_if (Some stream) known was now is has = still_has stream known was now is has
 
 pub mine_after : (before after : Listener) (was now : Option Hold) (number : ℕ) (found known : ℕ → ℕ)
     (acquired : Option Acquisition) → AcquiresFor before after number acquired
     → ((started : ℕ × ℕ) → ear_started before.ear ≡ Some started → ear_started after.ear ≡ Some started)
-    → now ≡ held_with acquired number found known was → HoldsIf was (slot_of (ear_started before.ear))
-    → HoldsIf now (slot_of (ear_started after.ear))
+    → now ≡ held_with acquired number found known was → HoldsIf was (ear_started before.ear)
+    → HoldsIf now (ear_started after.ear)
 mine_after before after was now number found known None acquires stays holds_is has =
-    subst (λ (start : Option (ℕ × ℕ)). HoldsIf now (slot_of start))
-    (sym (kept_start (ear_started before.ear) (ear_started after.ear) stays acquires.0))
-    (still_has_if (slot_of (ear_started before.ear)) known was now holds_is has)
+    subst (HoldsIf now) (sym (kept_start (ear_started before.ear) (ear_started after.ear) stays acquires.0))
+    (still_has_if (ear_started before.ear) known was now holds_is has)
 mine_after before after was now number found known (Some one) acquires stays holds_is has =
-    subst (λ (start : Option (ℕ × ℕ)). HoldsIf now (slot_of start)) (sym acquires.1)
-    (record { mine = hold one number (found one.slot) (known one.slot); held_is = holds_is; slot_is = refl })
+    subst (HoldsIf now) (sym acquires.1) (record {
+      mine = hold one number (found one.slot) (known one.slot);
+      held_is = holds_is;
+      slot_is = refl;
+      start_is = refl;
+    })
 
 -- ---- the slots in use
 

@@ -3,6 +3,7 @@ pub mod ClosingLemmas
 pub mod ConfirmingLemmas
 pub mod ConnectionLemmas
 pub mod Crossing
+pub mod EndedLemmas
 pub mod FlushingLemmas
 pub mod FollowingLemmas
 pub mod GatheringLemmas
@@ -17,11 +18,13 @@ pub mod PermitLemmas
 pub mod ReachLemmas
 pub mod ReadLemmas
 pub mod RefusedLemmas
+pub mod RefusedStatuses
 pub mod ReplayLemmas
 pub mod ResumeLemmas
 pub mod Rules
 pub mod SeenLogs
 pub mod SendingLemmas
+pub mod SentLemmas
 pub mod ServingLemmas
 pub mod SkippingLemmas
 pub mod SpeakingLemmas

@@ -24,6 +24,7 @@ use Rattle.publisher_desk.specs.Receipts.{ReceiptOf, transaction_of, transaction
 use Rattle.publisher_desk.specs.Seats.{SeatOf}
 use Rattle.publisher_desk.specs.Sights.{times}
 use Rattle.publisher_desk.specs.SlotEvents.{AreConfirmed, AreInTurn, acquisitions, confirmed_after, no_position, no_use}
+use Rattle.publisher_desk.specs.SlotSights.{BeginsWith}
 use Rattle.publisher_desk.specs.Viewers.{ClosingOf, IsSeenIn}
 use Rattle.publisher_desk.specs.declared.note.Note.{Note}
 use Rattle.publisher_desk.specs.declared.note.Note.TheVariants.{Committed, Looked}
@@ -364,18 +365,20 @@ module _ (checked : CheckedOf) (log : List ReceiptOf) (book : Book) (seats : Lis
 pub witnessed_as_named : (checked : CheckedOf) (closing : ClosingOf) (acquired : ℕ) (seats seen : List SeatOf)
     (served told : List ServedOf) (book : Book) → book_checked book ≡ checked
     → StandsFor book (transactions_of closing.log) → acquired ≡ acquisitions closing.events → seen ≡ seats
-    → told ≡ served → AreSeatsIn (setting_in checked) closing.log seats → All (IsWitnessed checked) served
+    → told ≡ served → AreSeatsIn (setting_in checked) closing.log seats
+    → All (λ (seat : SeatOf). BeginsWith closing.events seat.events) seats → All (IsWitnessed checked) served
     → All (λ (one : ServedOf). IsSeenIn closing one.viewer) served → AreInTurn no_use no_position closing.events
     → AreConfirmed (confirmed_after closing.events) closing.slots
     → AreWitnessed (book_checked book) closing acquired seen told book
-witnessed_as_named checked closing acquired seats seen served told book named stands count same alike seats_in witnessed
-    shown turns known =
+witnessed_as_named checked closing acquired seats seen served told book named stands count same alike seats_in begin
+    witnessed seen_all turns known =
     subst (λ (one : CheckedOf). AreWitnessed one closing acquired seen told book) (sym named)
     (subst (λ (list : List SeatOf). AreWitnessed checked closing acquired list told book) (sym same)
     (subst (λ (list : List ServedOf). AreWitnessed checked closing acquired seats list book) (sym alike) (record {
       logged = record { stands = stands; each = seats_in.each; once = seats_in.once };
+      shown = begin;
       witnessed = witnessed;
-      seen = shown;
+      seen = seen_all;
       count = count;
       turns = turns;
       known = known;

@@ -7,7 +7,7 @@ use Rattle.publisher_desk.specs.SlotSights.{hold}
 use Rattle.publisher_desk.specs.Viewers.{HadSlot, release}
 use Rattle.publisher_desk.specs.declared.slot_event.Acquisition.{Acquisition}
 use Rattle.publisher_desk.specs.declared.slot_event.SlotEvent.{SlotEvent}
-use Rattle.publisher_desk.specs.declared.slot_event.SlotEvent.TheVariants.{Acquired, Confirmed, Released}
+use Rattle.publisher_desk.specs.declared.slot_event.SlotEvent.TheVariants.{Acquired, Advanced, Confirmed, Released}
 use Rattle.publisher_desk.specs.declared.slot_sight.Hold.{Hold}
 use Rattle.publisher_desk.proofs.EventLemmas.{in_use}
 
@@ -37,6 +37,7 @@ overlaps (x ∷ xs) ys (u ∷ us) vs same =
 rises_by : (used : ℕ → Bool) (known : ℕ → ℕ) (event : SlotEvent) (slot : ℕ) → IsInTurn used known event
     → known slot ≤ position_by event known slot
 rises_by used known (Acquired one) slot turn = omega arith
+rises_by used known (Advanced one) slot turn = omega arith
 rises_by used known (Confirmed one) slot turn =
     dite (ℕ_discrete slot one.slot)
     (λ here.
@@ -85,6 +86,7 @@ confirmed_rises events more slot turns =
 no_fewer : (events more : List SlotEvent) → acquisitions events ≤ acquisitions (events ++ more)
 no_fewer [] more = omega arith
 no_fewer (Acquired one ∷ events) more = let rest = no_fewer events more in omega (arith, rest)
+no_fewer (Advanced one ∷ events) more = no_fewer events more
 no_fewer (Confirmed one ∷ events) more = no_fewer events more
 no_fewer (Released one ∷ events) more = no_fewer events more
 
@@ -98,8 +100,8 @@ keep_first slot (event ∷ events) more keep = (keep.0, keep_first slot events m
 abbrev up_to : List SlotEvent → Acquisition → List SlotEvent → List SlotEvent
 up_to before one between = before ++ Acquired one ∷ between
 
-module _ (all : List SlotEvent) (one other : Hold) (commits later : ℕ) (had : HadSlot all one commits)
-    (next : HadSlot all other later) (same : one.acquisition.slot ≡ other.acquisition.slot)
+module _ (all : List SlotEvent) (one other : Hold) (sent given commits later : ℕ) (had : HadSlot all one sent commits)
+    (next : HadSlot all other given later) (same : one.acquisition.slot ≡ other.acquisition.slot)
     (order : one.number < other.number) where
   -- while one has the slot, the other does not acquire it
   not_while : (between rest : List SlotEvent) → had.between ≡ between ++ rest
@@ -136,6 +138,7 @@ module _ (all : List SlotEvent) (one other : Hold) (commits later : ℕ) (had : 
       no_more : (events : List SlotEvent) → acquisitions (events ++ []) ≤ acquisitions events
       no_more [] = omega arith
       no_more (Acquired it ∷ events) = let rest = no_more events in omega (arith, rest)
+      no_more (Advanced it ∷ events) = no_more events
       no_more (Confirmed it ∷ events) = no_more events
       no_more (Released it ∷ events) = no_more events
   not_inside x rest (IsLonger (event ∷ between) is more) =
@@ -188,9 +191,9 @@ module _ (all : List SlotEvent) (one other : Hold) (commits later : ℕ) (had : 
       (sym had.events_are ∙ its))
 
 -- What a stream left confirmed is confirmed in the end.
-pub stays_confirmed : (all : List SlotEvent) (one : Hold) (commits : ℕ) → HadSlot all one commits
+pub stays_confirmed : (all : List SlotEvent) (one : Hold) (sent commits : ℕ) → HadSlot all one sent commits
     → AreInTurn no_use no_position all → one.confirmed ≤ confirmed_after all one.acquisition.slot
-stays_confirmed all one commits had turns =
+stays_confirmed all one sent commits had turns =
     let events : List SlotEvent = up_to had.before one.acquisition had.between in
     let rest : List SlotEvent = Released (release one.acquisition.slot commits) ∷ had.after in
     let is : all ≡ events ++ rest = had.events_are in

@@ -1,4 +1,6 @@
 -- What a listener has heard, read after read.
+use Rattle.senders.proofs.PermitLemmas.{kept_by}
+use Rattle.copy_frames.specs.Frames.{fault_in}
 use Rattle.std.proofs.Common.{◌≡◌, ℕ, List, [], ◌++◌, length, refl, sym, ◌∙◌, ap, subst, append_assoc, append-nil}
 use Rattle.std.specs.Prelude.{Bool, true, Option, Some, None, Result, Ok, Err}
 use Rattle.std.proofs.KnownBytes.{Consumes-nil, Consumes-trans}
@@ -10,9 +12,9 @@ use Rattle.copy_both.specs.declared.heard.Heard.{Heard}
 use Rattle.copy_both.specs.declared.link_fault.LinkFault.{LinkFault}
 use Rattle.copy_both.specs.ConfirmedFrames.{HasConfirmedAll}
 use Rattle.publisher_desk.specs.Viewers.{HoldsIf, ViewerOf}
-use Rattle.senders.specs.Hearing.{HearsPiece, StaysStarted}
+use Rattle.senders.specs.Hearing.{HearsPiece, IsSilent, StaysStarted}
 use Rattle.senders.specs.Confirming.{ConfirmsBy, ReportsIf}
-use Rattle.senders.specs.Listening.{EndsFor, EndsOf, HasItsSlot, HasListened, HoldsStream, HearsLast, HearsMore, HearsNext, SaysOfPiece, SaysRequested, next_by, next_by_end, piece_of, slot_of}
+use Rattle.senders.specs.Listening.{EndsFor, EndsOf, HasItsSlot, HasListened, HoldsStream, HearsLast, HearsMore, HearsNext, SaysOfPiece, SaysRequested, next_by, next_by_end, piece_of, PermitsStart, HearsAll, HasSentNone, RefusesLast, RefusesNow}
 use Rattle.senders.specs.Refusing.{fault_by}
 use Rattle.senders.specs.Results.{books_seen}
 use Rattle.senders.specs.declared.failed.Failed.{Failed}
@@ -55,7 +57,7 @@ same_listened checked viewer bytes old new same said number has = record {
 
 same_slot : (viewer : ViewerOf) (old new : Listener) → new.ear ≡ old.ear → HasItsSlot viewer old
     → HasItsSlot viewer new
-same_slot viewer old new same = subst (λ (ear : Ear). HoldsIf viewer.held (slot_of (ear_started ear))) (sym same)
+same_slot viewer old new same = subst (λ (ear : Ear). HoldsIf viewer.held (ear_started ear)) (sym same)
 
 stays_from : (old middle new : Ear) → middle ≡ old → StaysStarted middle new → StaysStarted old new
 stays_from old middle new same stays = subst (λ (ear : Ear). StaysStarted ear new) same stays
@@ -64,16 +66,18 @@ module _ (checked : CheckedOf) (was now : ViewerOf) (left now_left : Option (Lis
     (old middle new : Listener)
     (pulls : PullsPiece left now_left (piece_of middle) old middle)
     (room : length new.piece.items ≡ length middle.piece.items)
-    (result : Result Heard LinkFault) (says : SaysOfPiece checked was now (piece_of middle) middle new result) where
+    (result : Result Heard LinkFault) (says : SaysOfPiece checked was now (piece_of middle) middle new result)
+    (permit : Option ℕ) (permits : PermitsStart (ear_started middle.ear) (ear_started new.ear) permit) where
   has_pulled : (bytes : List ℕ) → HasListened checked was bytes old → HasListened checked was bytes middle
   has_pulled bytes has = same_listened checked was bytes old middle pulls.ear pulls.same pulls.number has
 
   -- what is said of confirmations, of the answer
   says_of : (heard : Result Heard LinkFault) → result ≡ heard → (bytes : List ℕ) → HasListened checked was bytes middle
-      → ConfirmsBy (ear_started new.ear) (frames_in (bytes ++ piece_of middle)) heard (ear_confirmed new.ear)
+      → ConfirmsBy (ear_started new.ear) new.number now.events (frames_in (bytes ++ piece_of middle)) heard
+      (ear_confirmed new.ear)
   says_of heard is bytes has =
-      subst (λ (r : Result Heard LinkFault). ConfirmsBy (ear_started new.ear) (frames_in (bytes ++ piece_of middle)) r
-      (ear_confirmed new.ear)) is (says.confirms bytes has)
+      subst (λ (r : Result Heard LinkFault). ConfirmsBy (ear_started new.ear) new.number now.events
+      (frames_in (bytes ++ piece_of middle)) r (ear_confirmed new.ear)) is (says.confirms bytes has)
 
   by_end : (was_over : Bool) (heard : Heard) → result ≡ Ok heard
       → HearsPiece checked was now (piece_of middle) middle.ear new.ear (Ok heard)
@@ -93,12 +97,17 @@ module _ (checked : CheckedOf) (was now : ViewerOf) (left now_left : Option (Lis
           has = record {
             heard = goes;
             requested = says.each bytes listened;
-            confirmed = confirms_all (ear_started new.ear) (frames_in (bytes ++ piece_of middle)) heard
+            confirmed = confirms_all (ear_started new.ear) new.number now.events (frames_in (bytes ++ piece_of middle)) heard
                 (ear_confirmed new.ear) none (says_of (Ok heard) is bytes listened);
             holding = says.holding bytes listened;
           };
           stays = stays_from old.ear middle.ear new.ear pulls.ear one.stays;
         };
+    started = λ was. record {
+      stream = was.stream;
+      started_is = (kept_by (ear_started middle.ear) (ear_started new.ear) permit was.stream
+          (ap ear_started pulls.ear ∙ was.started_is) permits).0;
+    };
     room = room ∙ pulls.room;
   }
   by_end was_over heard is hears (Some kind) some = record {
@@ -110,11 +119,13 @@ module _ (checked : CheckedOf) (was now : ViewerOf) (left now_left : Option (Lis
         let one = hears.each bytes listened.heard in
         record {
           asks = one.asks;
-          ends = subst (GoesOnOrEnds checked (books_seen now) (bytes ++ piece_of middle) new.ear) some one.explained;
+          ends = (subst (GoesOnOrEnds checked (books_seen now) (bytes ++ piece_of middle) new.ear) some one.explained).0;
           stays = stays_from old.ear middle.ear new.ear pulls.ear one.stays;
           requested = says.each bytes listened;
-          reports = reports_frame (ear_started new.ear) (bytes ++ piece_of middle) heard kind (ear_confirmed new.ear)
-              some (says_of (Ok heard) is bytes listened);
+          reports = reports_frame (ear_started new.ear) new.number now.events (bytes ++ piece_of middle) heard kind
+              (ear_confirmed new.ear) some (says_of (Ok heard) is bytes listened);
+          none = (subst (GoesOnOrEnds checked (books_seen now) (bytes ++ piece_of middle) new.ear) some one.explained).1;
+          refuses = tt;
           holding = says.holding bytes listened;
         };
   }
@@ -135,8 +146,11 @@ module _ (checked : CheckedOf) (was now : ViewerOf) (left now_left : Option (Lis
           ends = one.explained;
           stays = stays_from old.ear middle.ear new.ear pulls.ear one.stays;
           requested = says.each bytes listened;
-          reports = reports_fault (ear_started new.ear) (bytes ++ piece_of middle) f
+          reports = reports_fault (ear_started new.ear) new.number now.events (bytes ++ piece_of middle) f
               (ear_confirmed new.ear) (says_of (Err f) is bytes listened);
+          none = λ idle. (subst (RefusesNow checked now (bytes ++ piece_of middle) new) is (says.refuses bytes listened)
+              idle).1;
+          refuses = subst (RefusesNow checked now (bytes ++ piece_of middle) new) is (says.refuses bytes listened);
           holding = says.holding bytes listened;
         };
   }
@@ -156,11 +170,11 @@ says_still checked viewer bytes new has =
 
 reports_still : (checked : CheckedOf) (viewer : ViewerOf) (bytes : List ℕ) (new : Listener)
     → HasListened checked viewer bytes new
-    → ReportsIf (ear_started new.ear) (bytes ++ []) None (ear_confirmed new.ear)
+    → ReportsIf (ear_started new.ear) new.number viewer.events (bytes ++ []) None (ear_confirmed new.ear)
 reports_still checked viewer bytes new has =
-    subst (λ (all : List ℕ). ReportsIf (ear_started new.ear) all None (ear_confirmed new.ear))
+    subst (λ (all : List ℕ). ReportsIf (ear_started new.ear) new.number viewer.events all None (ear_confirmed new.ear))
     (sym (append-nil bytes))
-    (reports_all (ear_started new.ear) bytes (ear_confirmed new.ear) has.heard.good has.confirmed)
+    (reports_all (ear_started new.ear) new.number viewer.events bytes (ear_confirmed new.ear) has.heard.good has.confirmed)
 
 stays_same : (old new : Ear) → new ≡ old → StaysStarted old new
 stays_same old new same started is = ap ear_started same ∙ is
@@ -168,11 +182,12 @@ stays_same old new same started is = ap ear_started same ∙ is
 module _ (checked : CheckedOf) (viewer : ViewerOf) (left now_left : Option (List ℕ)) (failed ended : Bool)
     (old new : Listener) where
   nothing_read : (says : Bool) (why : ListenerEnd) → PullsNothing left now_left says old new
-      → fault_by why ≡ None
+      → fault_by why ≡ None → ((bytes : List ℕ) → IsSilent bytes → HasSentNone bytes why)
+      → ((bytes : List ℕ) → RefusesLast checked viewer bytes new why)
       → ((bytes : List ℕ) → EndsFor checked (books_seen viewer) bytes (ear_started new.ear) (ear_refusal new.ear) failed
       ended why)
       → HearsLast checked viewer viewer left now_left failed ended old new why
-  nothing_read says why pulls sound ends = record {
+  nothing_read says why pulls sound silent unrefused ends = record {
     more = [];
     read = pulls.read;
     sees = sees_same viewer;
@@ -183,19 +198,27 @@ module _ (checked : CheckedOf) (viewer : ViewerOf) (left now_left : Option (List
           ends = ends (bytes ++ []);
           stays = stays_same old.ear new.ear pulls.ear;
           requested = says_still checked viewer bytes new listened;
-          reports = subst (λ (o : Option LinkFault). ReportsIf (ear_started new.ear) (bytes ++ []) o
-              (ear_confirmed new.ear)) (sym sound) (reports_still checked viewer bytes new listened);
+          reports = subst (λ (o : Option LinkFault). ReportsIf (ear_started new.ear) new.number viewer.events
+              (bytes ++ []) o (ear_confirmed new.ear)) (sym sound) (reports_still checked viewer bytes new listened);
+          none = λ idle. silent (bytes ++ []) (record {
+            none = ap frames_in (append-nil bytes)
+                ∙ subst (IsStartedBy checked (books_seen viewer) (frames_in bytes)) idle listened.heard.started;
+            good = ap (fault_in 65536) (append-nil bytes) ∙ listened.heard.good;
+          });
+          refuses = unrefused (bytes ++ []);
           holding = listened.holding;
         };
   }
 
   pub read_fails : PullsNothing left now_left failed old new
       → HearsLast checked viewer viewer left now_left failed ended old new listener_end.SourceFailed
-  read_fails pulls = nothing_read failed listener_end.SourceFailed pulls refl (λ bytes. pulls.said)
+  read_fails pulls = nothing_read failed listener_end.SourceFailed pulls refl (λ bytes none. none) (λ bytes. tt)
+      (λ bytes. pulls.said)
 
   pub read_ends : PullsNothing left now_left ended old new
       → HearsLast checked viewer viewer left now_left failed ended old new listener_end.SourceEnded
-  read_ends pulls = nothing_read ended listener_end.SourceEnded pulls refl (λ bytes. pulls.said)
+  read_ends pulls = nothing_read ended listener_end.SourceEnded pulls refl (λ bytes none. none) (λ bytes. tt)
+      (λ bytes. pulls.said)
 
 -- ---- reads, one after another
 
@@ -210,6 +233,7 @@ hears_nothing checked viewer left listener = record {
     has = subst (λ (all : List ℕ). HasListened checked viewer all listener) (sym (append-nil bytes)) has;
     stays = λ started is. is;
   };
+  started = λ was. was;
   room = refl;
 }
 
@@ -230,6 +254,7 @@ module _ (checked : CheckedOf) (was between now : ViewerOf) (left middle_left la
               two.has;
           stays = λ started is. two.stays started (one.stays started is);
         };
+    started = λ was. then.started (first.started was);
     room = then.room ∙ first.room;
   }
 
@@ -251,9 +276,17 @@ module _ (checked : CheckedOf) (was between now : ViewerOf) (left middle_left la
           stays = λ started is. two.stays started (one.stays started is);
           requested = two.requested;
           reports = two.reports;
+          none = two.none;
+          refuses = two.refuses;
           holding = two.holding;
         });
   }
+
+  pub hears_all : (failed ended : Bool) (why : Option ListenerEnd)
+      → HearsAll checked between now middle_left last_left failed ended middle new why
+      → HearsAll checked was now left last_left failed ended old new why
+  hears_all failed ended None then = hears_more then
+  hears_all failed ended (Some why) then = hears_last failed ended why then
 
 -- ---- what came of a read
 

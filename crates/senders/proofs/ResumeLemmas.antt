@@ -30,8 +30,9 @@ use Rattle.senders.proofs.ReachLemmas.{long_count}
 -- and left it confirmed up to what it reports at least.
 record HadSlotFrom (events : List SlotEvent) (slot number confirmed start : ℕ) : Type 0 where
   held : Hold
+  sent : ℕ
   commits : ℕ
-  had : HadSlot events held commits
+  had : HadSlot events held sent commits
   slot_is : held.acquisition.slot ≡ slot
   number_is : held.number ≡ number
   left : confirmed ≤ held.confirmed
@@ -41,11 +42,13 @@ starts_low : (found start : ℕ) (is_requested : Bool) → StartsFrom found star
 starts_low found start true from = omega (arith, from)
 starts_low found start false from = omega (arith, from)
 
-had_from : (events : List SlotEvent) (its start : Option ℕ) (is_requested : Bool) (number confirmed commits slot : ℕ)
-    → HadStream its start is_requested number confirmed commits events → its ≡ Some slot
+had_from : (events : List SlotEvent) (its start : Option ℕ) (is_requested : Bool)
+    (number confirmed sent commits slot : ℕ) → HadStream its start is_requested number confirmed sent commits events
+    → its ≡ Some slot
     → HadSlotFrom events slot number confirmed (unwrap_or start 0)
-had_from events (Some its) (Some start) is_requested number confirmed commits slot had same = record {
+had_from events (Some its) (Some start) is_requested number confirmed sent commits slot had same = record {
   held = hold (acquisition its start is_requested) number had.found (max had.found confirmed);
+  sent = sent;
   commits = commits;
   had = had.had;
   slot_is = cc;
@@ -53,9 +56,9 @@ had_from events (Some its) (Some start) is_requested number confirmed commits sl
   left = omega arith;
   found = starts_low had.found start is_requested had.from;
 }
-had_from events (Some its) None is_requested number confirmed commits slot had same = absurd had
-had_from events None (Some start) is_requested number confirmed commits slot had same = absurd had
-had_from events None None is_requested number confirmed commits slot had same = absurd cc
+had_from events (Some its) None is_requested number confirmed sent commits slot had same = absurd had
+had_from events None (Some start) is_requested number confirmed sent commits slot had same = absurd had
+had_from events None None is_requested number confirmed sent commits slot had same = absurd cc
 
 -- ---- the connections that started a stream
 
@@ -90,7 +93,7 @@ module _ (events : List SlotEvent) (turns : AreInTurn no_use no_position events)
   had_at place other slot below same =
       let one : ServedOf = get_or order place other in
       subst (λ (n : ℕ). HadSlotFrom events slot n one.confirmed (unwrap_or one.start 0)) (number_at place other below)
-      (had_from events one.slot one.start one.is_requested one.number one.confirmed (length one.viewer.seen) slot
+      (had_from events one.slot one.start one.is_requested one.number one.confirmed one.sent (length one.viewer.seen) slot
       (each place other below) same)
 
   -- an earlier stream of the slot, and a later one
@@ -99,7 +102,7 @@ module _ (events : List SlotEvent) (turns : AreInTurn no_use no_position events)
       → confirmed ≤ start
   earlier_first slot place later confirmed start low high order one other =
       let first = one.number_is in let second = other.number_is in
-      let up = finds events one.held other.held one.commits other.commits one.had other.had
+      let up = finds events one.held other.held one.sent other.sent one.commits other.commits one.had other.had
       (one.slot_is ∙ sym other.slot_is) (omega (arith, first, second, order)) turns in
       let left = one.left in let found = other.found in omega (arith, up, left, found)
 
@@ -138,7 +141,7 @@ module _ (events : List SlotEvent) (turns : AreInTurn no_use no_position events)
     reached = reached slot below;
     resumed = λ place other within its.
         let one = had_at place other slot within its in
-        let left = one.left in let up = stays_confirmed events one.held one.commits one.had turns in
+        let left = one.left in let up = stays_confirmed events one.held one.sent one.commits one.had turns in
         let here = ap (confirmed_after events) one.slot_is in let at = known slot in
         omega (arith, left, up, here, at);
   }

@@ -187,6 +187,7 @@ uses_longer used (event ∷ events) more = let rest = uses_longer (use_by event 
 -- a publisher that has had more books
 pub record AreMore (old new : BooksOf) : Type 0 where
   pub log : (transactions : List Transaction) → IsBeginning old.log transactions → IsBeginning new.log transactions
+  pub fewer : new.least ≤ old.least
   pub uses : (test : ℕ → Bool) → Contains old.uses test → Contains new.uses test
 
 pub books_more : (old new : ViewerOf) → SeesMore old new → AreMore (books_seen old) (books_seen new)
@@ -198,6 +199,7 @@ books_more old new sees = record {
         ∙ (ap (λ (list : List Transaction). list ++ transactions_of sees.log.0) begins.log_is
         ∙ append_assoc transactions begins.later (transactions_of sees.log.0)));
   };
+  fewer = omega arith;
   uses = λ test among.
       let longer : List SlotEvent = old.events ++ sees.slots.0 in
       let long = uses_longer no_use old.events sees.slots.0 in
@@ -211,7 +213,7 @@ books_more old new sees = record {
 
 -- what it has seen is no less than what it had seen before
 pub same_books : (viewer : ViewerOf) → AreMore (books_seen viewer) (books_seen viewer)
-same_books viewer = record { log = λ transactions begins. begins; uses = λ test among. among }
+same_books viewer = record { log = λ transactions begins. begins; fewer = omega arith; uses = λ test among. among }
 
 pub sees_same : (viewer : ViewerOf) → SeesMore viewer viewer
 sees_same viewer = record {
@@ -243,6 +245,7 @@ module _ (checked : CheckedOf) (old new : BooksOf) (more : AreMore old new) wher
     transactions = is.transactions;
     stands = is.stands;
     begins = more.log is.transactions is.begins;
+    enough = let fewer = more.fewer in let enough = is.enough in omega (arith, fewer, enough);
     used = is.used;
     among = more.uses is.used is.among;
     slots_are = is.slots_are;

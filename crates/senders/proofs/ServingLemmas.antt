@@ -1,4 +1,5 @@
 -- What came of a connection: what was read of it, and what was written.
+use Rattle.senders.proofs.StreamingLemmas.{heard_unfinished}
 use Rattle.std.proofs.Common.{◌≡◌, ℕ, List, [], ◌++◌, refl, sym, ◌∙◌, ap, subst, inl, inr, arith}
 use Rattle.std.proofs.lemmas.Bool.Decides.{nat_tests}
 use Rattle.std.specs.Prelude.{◌==◌, Bool, true, false, Option, Some, None}
@@ -15,6 +16,7 @@ use Rattle.copy_both.specs.declared.link_fault.LinkFault.{LinkFault}
 use Rattle.copy_both.specs.declared.link_fault.LinkFault.TheVariants as fault
 use Rattle.tables_log.specs.Lsn.{commits_before}
 use Rattle.publisher_desk.specs.Viewers.{SeesMore, ViewerOf, new_viewer}
+use Rattle.publisher_desk.specs.declared.slot_event.SlotEvent.{SlotEvent}
 use Rattle.senders.specs.declared.end.End.{End}
 use Rattle.senders.specs.declared.end.End.TheVariants as end
 use Rattle.senders.specs.declared.outcome.Outcome.{Outcome}
@@ -23,8 +25,8 @@ use Rattle.senders.specs.Hearing.{HoldsFault}
 use Rattle.senders.specs.Listening.{EndsAt, EndsFor, EndsOf, HasListened, HearsAll, HoldsStream, HoldsStreamOf, IsHolding, StartsOn}
 use Rattle.senders.specs.Refusing.{cause_by, fault_by, fault_after}
 use Rattle.senders.specs.Running.{Heard, IsEndOf, Memory, Streams, Whole, Writing}
-use Rattle.senders.specs.Serving.{IsEndCause, IsEnded, IsAfterStream, HasClientLeft, IsServed, IsServedFor, IsStream, IsTail, IsWritten, started_of}
-use Rattle.senders.specs.Results.{ServedOf, books_seen, commits_of, served_of}
+use Rattle.senders.specs.Serving.{IsEndCause, IsEnded, IsAfterStream, HasClientLeft, IsServed, IsServedFor, IsStream, IsTail, IsWritten, started_of, IsHeardOut}
+use Rattle.senders.specs.Results.{ServedOf, books_seen, commits_of, served_of, book_seen}
 use Rattle.senders.specs.Sending.{TakesLogged}
 use Rattle.senders.specs.Serving as serving
 use Rattle.senders.specs.Speaking.{IsSaid}
@@ -32,7 +34,7 @@ use Rattle.senders.specs.Speaking as speaking
 use Rattle.senders.specs.declared.listener_end.ListenerEnd.{ListenerEnd}
 use Rattle.senders.specs.declared.listener_end.ListenerEnd.TheVariants as listener_end
 use Rattle.senders.specs.declared.listener.Listener.{Listener}
-use Rattle.senders.proofs.ConfirmingLemmas.{fault_ended, reports_all, stream_fits}
+use Rattle.senders.proofs.ConfirmingLemmas.{fault_ended, reports_all, reports_more, stream_fits}
 use Rattle.senders.proofs.ReadLemmas.{has_asked}
 use Rattle.senders.proofs.SeenLogs.{asks_still, books_more, ends_still}
 
@@ -65,29 +67,32 @@ heard_cause checked known bytes started response source_failed source_ended sink
 
 -- what the bytes say of it, and of why its listener ended
 record Knows (checked : CheckedOf) (known : BooksOf) (bytes : List ℕ) (slot start : ℕ) (source_failed source_ended : Bool)
-    (why : Option ListenerEnd) (is_requested : Bool) (confirmed : ℕ) : Type 0 where
+    (why : Option ListenerEnd) (is_requested : Bool) (confirmed number : ℕ) (events : List SlotEvent) : Type 0 where
   asks : AsksFor checked known (frames_in bytes) slot start
   requested : is_requested ≡ true → Requests (frames_in bytes) slot start
-  reports : HasReported bytes start (fault_after why) confirmed
+  reports : HasReported bytes (slot, start) number events (fault_after why) confirmed
   response : List ℕ
   ends : (ending : ListenerEnd) → why ≡ Some ending
       → EndsFor checked known bytes (Some (slot, start)) response source_failed source_ended ending
 
 is_last : (checked : CheckedOf) (known : BooksOf) (bytes : List ℕ) (slot start : ℕ) (source_failed source_ended : Bool)
-    (why : Option ListenerEnd) (is_requested : Bool) (confirmed : ℕ) (last : List ℕ)
-    → Knows checked known bytes slot start source_failed source_ended why is_requested confirmed → IsSaid why last
-    → IsAfterStream (frames_in bytes) last
-is_last checked known bytes slot start source_failed source_ended why is_requested confirmed last knows (speaking.Nothing none) =
+    (why : Option ListenerEnd) (is_requested : Bool) (confirmed number : ℕ) (events : List SlotEvent) (last : List ℕ)
+    → Knows checked known bytes slot start source_failed source_ended why is_requested confirmed number events
+    → IsSaid why last → IsAfterStream (frames_in bytes) last
+is_last checked known bytes slot start source_failed source_ended why is_requested confirmed number events last knows
+    (speaking.Nothing none) =
     serving.Nothing none
-is_last checked known bytes slot start source_failed source_ended why is_requested confirmed last knows (speaking.Done done is) =
+is_last checked known bytes slot start source_failed source_ended why is_requested confirmed number events last knows
+    (speaking.Done done is) =
     serving.Done done (knows.ends (listener_end.Frame 99) is)
 
 module _ (checked : CheckedOf) (known : BooksOf) (bytes : List ℕ) (slot start : ℕ) (source_failed source_ended : Bool)
     (before after : Option (List ℕ)) (sink_failed : Bool) (why : Option ListenerEnd) (outcome : Outcome)
-    (is_requested : Bool) (confirmed number : ℕ) (viewer : ViewerOf) (known_is : known ≡ books_seen viewer)
-    (knows : Knows checked known bytes slot start source_failed source_ended why is_requested confirmed) where
+    (sent : ℕ) (is_requested : Bool) (confirmed number : ℕ) (viewer : ViewerOf) (known_is : known ≡ books_seen viewer)
+    (knows : Knows checked known bytes slot start source_failed source_ended why is_requested confirmed number
+    viewer.events) where
   abbrev served : ServedOf
-  served = served_of outcome is_requested confirmed number viewer
+  served = served_of outcome sent is_requested confirmed number viewer
 
   stream_cause : (is : End) → IsEndOf why sink_failed is
       → IsEndCause checked known bytes (Some (slot, start)) source_failed source_ended sink_failed is
@@ -96,7 +101,7 @@ module _ (checked : CheckedOf) (known : BooksOf) (bytes : List ℕ) (slot start 
   stream_cause is (Memory same) =
       subst (IsEndCause checked known bytes (Some (slot, start)) source_failed source_ended sink_failed) (sym same)
       (memory_cause checked known bytes slot start)
-  stream_cause is (Whole same) =
+  stream_cause is (Whole ending some same) =
       subst (IsEndCause checked known bytes (Some (slot, start)) source_failed source_ended sink_failed) (sym same) tt
   stream_cause is (Heard ending some same) =
       subst (IsEndCause checked known bytes (Some (slot, start)) source_failed source_ended sink_failed) (sym same)
@@ -127,9 +132,33 @@ module _ (checked : CheckedOf) (known : BooksOf) (bytes : List ℕ) (slot start 
       → HasClientLeft source_ended (frames_in bytes) written
   left_by written is client answered (Writing same failed) = cc
   left_by written is client answered (Memory same) = cc
-  left_by written is client answered (Whole same) = cc
+  left_by written is client answered (Whole ending some same) = cc
   left_by written is client answered (Heard ended some same) =
       left_by_ending written ended some (sym same ∙ client) answered
+
+  abbrev IsOut : List ℕ → Option LinkFault → Type 0
+  IsOut = IsHeardOut (frames_in bytes) source_failed source_ended sink_failed
+
+  out_by : (written : List ℕ) (ending : ListenerEnd) → why ≡ Some ending
+      → (why ≡ Some (listener_end.Frame 99) → sink_failed ≡ false → IsTail copy_done written)
+      → IsOut written (fault_after why)
+  out_by written listener_end.SourceFailed some answered =
+      serving.Broken (knows.ends listener_end.SourceFailed some)
+  out_by written listener_end.SourceEnded some answered =
+      serving.AllRead (knows.ends listener_end.SourceEnded some)
+  out_by written (listener_end.Frame kind) some answered =
+      serving.Parted kind (knows.ends (listener_end.Frame kind) some)
+      (λ same. answered (some ∙ ap (λ (k : ℕ). Some (listener_end.Frame k)) same))
+  out_by written (listener_end.Fault fault) some answered = serving.Faulty fault (ap fault_after some)
+
+  heard_out : (written : List ℕ) (is : End) → is ≡ end.Finished
+      → (why ≡ Some (listener_end.Frame 99) → sink_failed ≡ false → IsTail copy_done written)
+      → IsEndOf why sink_failed is → IsOut written (fault_after why)
+  heard_out written is finished answered (Writing same failed) = cc
+  heard_out written is finished answered (Memory same) = cc
+  heard_out written is finished answered (Whole ending some same) = out_by written ending some answered
+  heard_out written is finished answered (Heard ending some same) =
+      absurd (heard_unfinished ending (sym same ∙ finished))
 
   stream_served : Streams checked slot start before after sink_failed why outcome
       → IsServedFor checked bytes source_failed source_ended before after sink_failed served
@@ -143,9 +172,8 @@ module _ (checked : CheckedOf) (known : BooksOf) (bytes : List ℕ) (slot start 
         takes = streams.takes;
         rest = streams.rest;
         last = streams.last;
-        last_is = is_last checked known bytes slot start source_failed source_ended why is_requested confirmed streams.last
-            knows
-            streams.said;
+        last_is = is_last checked known bytes slot start source_failed source_ended why is_requested confirmed number
+            viewer.events streams.last knows streams.said;
         bytes = streams.bytes;
         all = streams.all;
         whole = streams.whole;
@@ -153,12 +181,12 @@ module _ (checked : CheckedOf) (known : BooksOf) (bytes : List ℕ) (slot start 
       record {
         written = streams.written;
         put = streams.put;
-        is = subst (λ (k : BooksOf). IsWritten checked k (frames_in bytes) served.slot served.start (commits_of outcome)
-            streams.written sink_failed served.end) known_is
-            (subst (λ (o : Option ℕ). IsWritten checked known (frames_in bytes) o served.start (commits_of outcome)
-            streams.written sink_failed served.end) (sym streams.slot_is)
-            (subst (λ (o : Option ℕ). IsWritten checked known (frames_in bytes) (Some slot) o (commits_of outcome)
-            streams.written sink_failed served.end) (sym streams.start_is) is));
+        is = subst (λ (k : BooksOf). IsWritten checked k (book_seen viewer) (frames_in bytes) served.slot served.start
+            (commits_of outcome) streams.written sink_failed served.end) known_is
+            (subst (λ (o : Option ℕ). IsWritten checked known (book_seen viewer) (frames_in bytes) o served.start
+            (commits_of outcome) streams.written sink_failed served.end) (sym streams.slot_is)
+            (subst (λ (o : Option ℕ). IsWritten checked known (book_seen viewer) (frames_in bytes) (Some slot) o
+            (commits_of outcome) streams.written sink_failed served.end) (sym streams.start_is) is));
         cause = subst (λ (k : BooksOf). IsEndCause checked k bytes (started_of served.slot served.start) source_failed
             source_ended sink_failed served.end) known_is
             (subst (λ (o : Option ℕ). IsEndCause checked known bytes (started_of o served.start) source_failed
@@ -173,12 +201,12 @@ module _ (checked : CheckedOf) (known : BooksOf) (bytes : List ℕ) (slot start 
             let same_start : start ≡ at = cc in
             subst (λ (s : ℕ). Requests (frames_in bytes) s at) same_slot
             (subst (λ (n : ℕ). Requests (frames_in bytes) slot n) same_start (knows.requested says));
-        reports = subst (λ (o : Option ℕ). ReportsIf (started_of o served.start) bytes served.fault confirmed)
-            (sym streams.slot_is)
-            (subst (λ (o : Option ℕ). ReportsIf (started_of (Some slot) o) bytes served.fault confirmed)
-            (sym streams.start_is)
-            (subst (λ (o : Option LinkFault). HasReported bytes start o confirmed) (sym streams.fault_is)
-            knows.reports));
+        reports = subst (λ (o : Option ℕ). ReportsIf (started_of o served.start) number viewer.events bytes
+            served.fault confirmed) (sym streams.slot_is)
+            (subst (λ (o : Option ℕ). ReportsIf (started_of (Some slot) o) number viewer.events bytes served.fault
+            confirmed) (sym streams.start_is)
+            (subst (λ (o : Option LinkFault). HasReported bytes (slot, start) number viewer.events o confirmed)
+            (sym streams.fault_is) knows.reports));
         fits = subst (FitsEnd served.end) (sym streams.fault_is)
             (stream_fits why sink_failed served.end streams.ends streams.refused);
         fault = λ found is.
@@ -188,8 +216,17 @@ module _ (checked : CheckedOf) (known : BooksOf) (bytes : List ℕ) (slot start 
             (subst (λ (o : Option ℕ). HoldsFault checked known bytes (started_of (Some slot) o) found)
             (sym streams.start_is)
             (knows.ends (listener_end.Fault found) (fault_ended why found (sym streams.fault_is ∙ is))).holds));
+        asked = λ none. absurd (let no : Some slot ≡ None = sym streams.slot_is ∙ none in cc);
+        heard = λ other some finished.
+            subst (IsOut streams.written) (sym streams.fault_is)
+            (heard_out streams.written served.end finished
+            (λ done sound. streams.answered sound
+            (λ memory. let no : end.Finished ≡ end.Link fault.OutOfMemory = sym finished ∙ memory in cc) done)
+            streams.ends);
         left = λ other some sound client.
-            left_by streams.written served.end client (streams.answered sound client) streams.ends;
+            left_by streams.written served.end client
+            (streams.answered sound
+            (λ memory. let no : end.Client ≡ end.Link fault.OutOfMemory = sym client ∙ memory in cc)) streams.ends;
       }
 
 -- ---- what was read of it
@@ -210,15 +247,19 @@ module _ (checked : CheckedOf) (now last : ViewerOf) (sees : SeesMore now last) 
 
   knows_end : (old new : Listener) (why : ListenerEnd)
       → EndsOf checked now bytes old new source_failed source_ended why
-      → ear_started new.ear ≡ Some (slot, start) → (is_requested : Bool) (confirmed : ℕ)
-      → is_requested ≡ new.is_requested → confirmed ≡ ear_confirmed new.ear
+      → ear_started new.ear ≡ Some (slot, start) → (is_requested : Bool) (confirmed number : ℕ)
+      → is_requested ≡ new.is_requested → confirmed ≡ ear_confirmed new.ear → number ≡ new.number
       → Knows checked (books_seen last) bytes slot start source_failed source_ended (Some why) is_requested confirmed
-  knows_end old new why ends is is_requested confirmed said noted = record {
+      number last.events
+  knows_end old new why ends is is_requested confirmed number said noted numbered = record {
     asks = asks_last (ear_started new.ear) ends.asks is;
     requested = λ says. ends.requested slot start is (sym said ∙ says);
-    reports = subst (HasReported bytes start (fault_by why)) (sym noted)
-        (subst (λ (o : Option (ℕ × ℕ)). ReportsIf o bytes (fault_by why) (ear_confirmed new.ear)) is
-        ends.reports);
+    reports = subst (λ (n : ℕ). HasReported bytes (slot, start) n last.events (fault_by why) confirmed) (sym numbered)
+        (subst (HasReported bytes (slot, start) new.number last.events (fault_by why)) (sym noted)
+        (reports_more bytes (slot, start) new.number now.events last.events (fault_by why) (ear_confirmed new.ear)
+        sees.slots
+        (subst (λ (o : Option (ℕ × ℕ)). ReportsIf o new.number now.events bytes (fault_by why) (ear_confirmed new.ear)) is
+        ends.reports)));
     response = ear_refusal new.ear;
     ends = λ ending some.
         let same : why ≡ ending = cc in
@@ -231,15 +272,17 @@ module _ (checked : CheckedOf) (now last : ViewerOf) (sees : SeesMore now last) 
   }
 
   knows_on : (listener : Listener) → HasListened checked now bytes listener
-      → ear_started listener.ear ≡ Some (slot, start) → (is_requested : Bool) (confirmed : ℕ)
+      → ear_started listener.ear ≡ Some (slot, start) → (is_requested : Bool) (confirmed number : ℕ)
       → is_requested ≡ listener.is_requested → confirmed ≡ ear_confirmed listener.ear
-      → Knows checked (books_seen last) bytes slot start source_failed source_ended None is_requested confirmed
-  knows_on listener has is is_requested confirmed said noted = record {
+      → Knows checked (books_seen last) bytes slot start source_failed source_ended None is_requested confirmed number
+      last.events
+  knows_on listener has is is_requested confirmed number said noted = record {
     asks = asks_last (ear_started listener.ear) (has_asked checked (books_seen now) bytes listener.ear has.heard) is;
     requested = λ says. has.requested slot start is (sym said ∙ says);
-    reports = subst (HasReported bytes start None) (sym noted)
-        (subst (λ (o : Option (ℕ × ℕ)). ReportsIf o bytes None (ear_confirmed listener.ear)) is
-        (reports_all (ear_started listener.ear) bytes (ear_confirmed listener.ear) has.heard.good has.confirmed));
+    reports = subst (HasReported bytes (slot, start) number last.events None) (sym noted)
+        (subst (λ (o : Option (ℕ × ℕ)). ReportsIf o number last.events bytes None (ear_confirmed listener.ear)) is
+        (reports_all (ear_started listener.ear) number last.events bytes (ear_confirmed listener.ear) has.heard.good
+        has.confirmed));
     response = [];
     ends = λ ending some. cc;
   }
@@ -249,7 +292,7 @@ module _ (checked : CheckedOf) (now last : ViewerOf) (sees : SeesMore now last) 
 -- what is known at the end of a stream: of its slot and its commits, and what the result will say
 pub record EndsStream (checked : CheckedOf) (now last : ViewerOf) (left now_left : Option (List ℕ))
     (source_failed source_ended : Bool) (before after : Option (List ℕ)) (sink_failed : Bool) (new : Listener)
-    (outcome : Outcome) (is_requested : Bool) (confirmed number : ℕ) (sender : ViewerOf) : Type 0 where
+    (outcome : Outcome) (sent : ℕ) (is_requested : Bool) (confirmed number : ℕ) (sender : ViewerOf) : Type 0 where
   pub slot : ℕ
   pub start : ℕ
   pub slot_is : outcome.slot ≡ Some slot
@@ -260,16 +303,17 @@ pub record EndsStream (checked : CheckedOf) (now last : ViewerOf) (left now_left
   pub frames : List Frame
   pub asks : AsksFor checked (books_seen last) frames slot start
   pub served : IsServed checked left now_left source_failed source_ended before after sink_failed
-      (served_of outcome is_requested confirmed number last)
+      (served_of outcome sent is_requested confirmed number last)
 
 module _ (checked : CheckedOf) (was now last : ViewerOf) (sees : SeesMore now last) (left now_left : Option (List ℕ))
     (source_failed source_ended : Bool)
     (before after : Option (List ℕ)) (sink_failed : Bool) (old new : Listener)
-    (fresh : HasListened checked was [] old) (outcome : Outcome) (is_requested : Bool) (confirmed number : ℕ)
-    (said : is_requested ≡ new.is_requested) (noted : confirmed ≡ ear_confirmed new.ear) where
+    (fresh : HasListened checked was [] old) (outcome : Outcome) (sent : ℕ) (is_requested : Bool) (confirmed number : ℕ)
+    (said : is_requested ≡ new.is_requested) (noted : confirmed ≡ ear_confirmed new.ear)
+    (numbered : number ≡ new.number) where
   abbrev Result : ViewerOf → Type 0
   Result sender = EndsStream checked now last left now_left source_failed source_ended before after sink_failed new outcome
-      is_requested confirmed number sender
+      sent is_requested confirmed number sender
 
   holds_started : (started : ℕ × ℕ) → ear_started new.ear ≡ Some started → IsHolding now new
       → HoldsStreamOf started new.is_requested new.number confirmed now.held
@@ -281,7 +325,7 @@ module _ (checked : CheckedOf) (was now last : ViewerOf) (sees : SeesMore now la
   ends_stream : (sender : ViewerOf) (bytes : List ℕ) (started : ℕ × ℕ) (why : Option ListenerEnd)
       → Consumes left now_left bytes → ear_started new.ear ≡ Some started → IsHolding now new
       → Knows checked (books_seen last) bytes started.0 started.1 source_failed source_ended why is_requested
-      confirmed → Streams checked started.0 started.1 before after sink_failed why outcome
+      confirmed number last.events → Streams checked started.0 started.1 before after sink_failed why outcome
       → TakesLogged checked new_viewer sender (commits_of outcome) → Result sender
   ends_stream sender bytes started why read is holding knows streams logged = record {
     slot = started.0;
@@ -297,7 +341,7 @@ module _ (checked : CheckedOf) (was now last : ViewerOf) (sees : SeesMore now la
       bytes = bytes;
       read = read;
       served_for = stream_served checked (books_seen last) bytes started.0 started.1 source_failed source_ended before
-          after sink_failed why outcome is_requested confirmed number last refl knows streams;
+          after sink_failed why outcome sent is_requested confirmed number last refl knows streams;
     };
   }
 
@@ -315,7 +359,7 @@ module _ (checked : CheckedOf) (was now last : ViewerOf) (sees : SeesMore now la
       ends_stream sender bytes started None
       (Consumes-trans left middle_left now_left on.hears.more more.more on.hears.read more.read) is then.has.holding
       (knows_on checked now last sees bytes started.0 started.1 source_failed source_ended new then.has is is_requested
-      confirmed said noted) streams logged
+      confirmed number said noted) streams logged
   by_listener sender between middle_left middle started on (Some why) more streams logged =
       let first = on.hears.heard [] fresh in
       let then = more.ends on.hears.more first.has in
@@ -324,7 +368,7 @@ module _ (checked : CheckedOf) (was now last : ViewerOf) (sees : SeesMore now la
       ends_stream sender bytes started (Some why)
       (Consumes-trans left middle_left now_left on.hears.more more.more on.hears.read more.read) is then.holding
       (knows_end checked now last sees bytes started.0 started.1 source_failed source_ended middle new why then is
-      is_requested confirmed said noted) streams logged
+      is_requested confirmed number said noted numbered) streams logged
 
   pub at_once : (sender : ViewerOf) (started : ℕ × ℕ) (why : ListenerEnd)
       → EndsAt checked was now left now_left source_failed source_ended old new (Some started) why
@@ -334,4 +378,4 @@ module _ (checked : CheckedOf) (was now last : ViewerOf) (sees : SeesMore now la
       let ends = at.hears.ends [] fresh in
       ends_stream sender at.hears.more started (Some why) at.hears.read at.started_is ends.holding
       (knows_end checked now last sees at.hears.more started.0 started.1 source_failed source_ended old new why ends
-      at.started_is is_requested confirmed said noted) streams logged
+      at.started_is is_requested confirmed number said noted numbered) streams logged

@@ -22,6 +22,7 @@ use Rattle.senders.specs.declared.outcome.Outcome.{Outcome}
 use Rattle.std.proofs.lemmas.List.Elements.{All-nil}
 use Rattle.stream_laws.specs.LayoutRoom.{IsClocked}
 use Rattle.senders.specs.Causes.{chosen, chosen_by, end_by, goes_first, is_refused, unopened_by}
+use Rattle.senders.specs.Listening.{HasEnded}
 use Rattle.senders.specs.Refusing.{cause_by, fault_after}
 use Rattle.senders.specs.Running.{Concludes, IsEndOf, IsWithout, Memory, Writing, Whole, Heard, Streams}
 use Rattle.senders.specs.Sending.{Breaks, Follows, GoesOn, Spells, StopsAs, started_telling}
@@ -45,10 +46,10 @@ pub record Wrote (checked : CheckedOf) (slot start : ℕ) (taken : List CommitOf
 
 -- CopyDone was said where the client said it, unless memory was refused, which is then reported
 answered_by : (was now : SenderEnd) (why : Option ListenerEnd) (last : List ℕ) (is : End)
-    → (now ≡ sender_end.OutOfMemory → is ≡ end.Client → ⊥) → IsClosing was now why last → is ≡ end.Client
-    → why ≡ Some (listener_end.Frame 99) → last ≡ copy_done
-answered_by was now why last is refused (Refused same) client done = absurd (refused same client)
-answered_by was now why last is refused (Answers same answers) client done = answers done
+    → (now ≡ sender_end.OutOfMemory → is ≡ end.Link fault.OutOfMemory) → IsClosing was now why last
+    → is ≢ end.Link fault.OutOfMemory → why ≡ Some (listener_end.Frame 99) → last ≡ copy_done
+answered_by was now why last is refused (Refused same) other done = absurd (other (refused same))
+answered_by was now why last is refused (Answers same answers) other done = answers done
 
 whole_last : (written rest last : List ℕ) → written ++ rest ≡ last → rest ≡ [] → written ≡ last
 whole_last written rest last bytes none =
@@ -87,7 +88,8 @@ module _ (checked : CheckedOf) (slot start : ℕ) where
       (fault_is : served.fault ≡ fault_after why)
       (refused : why ≡ Some (listener_end.Fault fault.OutOfMemory) → served.end ≡ end.Link fault.OutOfMemory) where
     after_all : (was now : SenderEnd) → GoesOn opened sent taken voice (started_telling checked slot start copy_both_response)
-        → Closes was now why sent last failed → (now ≡ sender_end.OutOfMemory → served.end ≡ end.Client → ⊥)
+        → Closes was now why sent last failed
+        → (now ≡ sender_end.OutOfMemory → served.end ≡ end.Link fault.OutOfMemory)
         → Streams checked slot start before last failed why served
     after_all was now goes closes unanswered =
         let front : List ℕ = copy_both_response ++ goes.bytes in
@@ -114,11 +116,11 @@ module _ (checked : CheckedOf) (slot start : ℕ) where
               ∙ w.bytes log (subst (AreAt log (commits_before start)) taken_is are));
           all = λ sound memory. closes.all sound;
           whole = λ finished. record { front = closes.written; list_is = sym closes.bytes };
-          answered = λ sound client done. record {
+          answered = λ sound other done. record {
             front = front;
             list_is = ap (λ (x : List ℕ). front ++ x)
                 (whole_last closes.written closes.rest closes.last closes.bytes (closes.all sound)
-                ∙ answered_by was now why closes.last served.end unanswered closes.closing client done);
+                ∙ answered_by was now why closes.last served.end unanswered closes.closing other done);
           };
           ends = ends;
           fault_is = fault_is;
@@ -128,7 +130,7 @@ module _ (checked : CheckedOf) (slot start : ℕ) where
     after_part : (was now : SenderEnd) → Breaks opened sent taken voice (started_telling checked slot start copy_both_response)
         → SaysNothing was now sent last was_failed failed
         → (failed ≡ false → voice_output voice ≡ []) → (served.end ≡ end.Finished → ⊥)
-        → (failed ≡ false → served.end ≡ end.Client → ⊥)
+        → (failed ≡ false → served.end ≢ end.Link fault.OutOfMemory → ⊥)
         → Streams checked slot start before last failed why served
     after_part was now breaks says all unfinished not_left =
         let front : List ℕ = copy_both_response ++ breaks.bytes in
@@ -153,7 +155,7 @@ module _ (checked : CheckedOf) (slot start : ℕ) where
               ∙ sym (append-nil (stream (telling_of checked) log slot (length checked.catalog.tables) start w.moves));
           all = λ sound memory. all sound;
           whole = λ finished. absurd (unfinished finished);
-          answered = λ sound client done. absurd (not_left sound client);
+          answered = λ sound other done. absurd (not_left sound other);
           ends = ends;
           fault_is = fault_is;
           refused = refused;
@@ -161,7 +163,7 @@ module _ (checked : CheckedOf) (slot start : ℕ) where
 
 -- ---- the causes that streams have
 
-heard_unfinished : (why : ListenerEnd) → cause_by why ≡ end.Finished → ⊥
+pub heard_unfinished : (why : ListenerEnd) → cause_by why ≡ end.Finished → ⊥
 heard_unfinished listener_end.SourceFailed is = cc
 heard_unfinished listener_end.SourceEnded is = cc
 heard_unfinished (listener_end.Frame kind) is = cc
@@ -184,12 +186,12 @@ unfinished s is_first None not is = stop_unfinished s not is
 unfinished s is_first (Some why) not is = by_unfinished s (is_refused s || goes_first is_first why) why not is
 
 refused_end : (s : SenderEnd) (is_first : Bool) (why : Option ListenerEnd) → s ≡ sender_end.OutOfMemory
-    → chosen s is_first why ≡ end.Client → ⊥
-refused_end sender_end.OutOfMemory is_first None is client = cc
-refused_end sender_end.OutOfMemory is_first (Some why) is client = cc
-refused_end sender_end.ConnectionEnded is_first why is client = cc
-refused_end sender_end.Finished is_first why is client = cc
-refused_end sender_end.WriteFault is_first why is client = cc
+    → chosen s is_first why ≡ end.Link fault.OutOfMemory
+refused_end sender_end.OutOfMemory is_first None is = refl
+refused_end sender_end.OutOfMemory is_first (Some why) is = refl
+refused_end sender_end.ConnectionEnded is_first why is = cc
+refused_end sender_end.Finished is_first why is = cc
+refused_end sender_end.WriteFault is_first why is = cc
 
 -- out of memory of the listener goes before all else
 memory_goes : (s : SenderEnd) (is_first : Bool)
@@ -208,82 +210,91 @@ not_fault : (was now : SenderEnd) (why : Option ListenerEnd) (last : List ℕ) �
 not_fault was now why last not (Refused same) is = cc
 not_fault was now why last not (Answers same answers) is = not (sym same ∙ is)
 
+not_finished : (was now : SenderEnd) (why : Option ListenerEnd) (last : List ℕ) → (was ≡ sender_end.Finished → ⊥)
+    → IsClosing was now why last → now ≡ sender_end.Finished → ⊥
+not_finished was now why last not (Refused same) is = cc
+not_finished was now why last not (Answers same answers) is = not (sym same ∙ is)
+
 stop_ends : (s : SenderEnd) (why : Option ListenerEnd) (failed : Bool) (is : End) → (s ≡ sender_end.WriteFault → failed ≡ true)
-    → is ≡ end_by s → IsEndOf why failed is
-stop_ends sender_end.ConnectionEnded why failed is fails same = Memory same
-stop_ends sender_end.Finished why failed is fails same = Whole same
-stop_ends sender_end.WriteFault why failed is fails same = Writing same (fails refl)
-stop_ends sender_end.OutOfMemory why failed is fails same = Memory same
+    → (s ≡ sender_end.Finished → HasEnded why) → is ≡ end_by s → IsEndOf why failed is
+stop_ends sender_end.ConnectionEnded why failed is fails out same = Memory same
+stop_ends sender_end.Finished why failed is fails out same = let heard = out refl in Whole heard.0 heard.1 same
+stop_ends sender_end.WriteFault why failed is fails out same = Writing same (fails refl)
+stop_ends sender_end.OutOfMemory why failed is fails out same = Memory same
 
 both_end : (s : SenderEnd) (is_first : Bool) (why : ListenerEnd) (failed : Bool) (is : End)
     → (s ≡ sender_end.WriteFault → failed ≡ true) → is ≡ chosen_by s is_first why → IsEndOf (Some why) failed is
-both_end s true why failed is fails same = stop_ends s (Some why) failed is fails same
+both_end s true why failed is fails same = stop_ends s (Some why) failed is fails (λ finished. (why, refl)) same
 both_end s false why failed is fails same = Heard why refl same
 
 ends_by : (s : SenderEnd) (is_first : Bool) (why : Option ListenerEnd) (failed : Bool) (is : End)
-    → (s ≡ sender_end.WriteFault → failed ≡ true) → is ≡ chosen s is_first why → IsEndOf why failed is
-ends_by s is_first None failed is fails same = stop_ends s None failed is fails same
-ends_by s is_first (Some why) failed is fails same =
+    → (s ≡ sender_end.WriteFault → failed ≡ true) → (s ≡ sender_end.Finished → HasEnded why)
+    → is ≡ chosen s is_first why → IsEndOf why failed is
+ends_by s is_first None failed is fails out same = stop_ends s None failed is fails out same
+ends_by s is_first (Some why) failed is fails out same =
     both_end s (is_refused s || goes_first is_first why) why failed is fails same
 
 -- ---- all of a stream
 
 module _ (checked : CheckedOf) (slot start : ℕ) (before opened sent last : Option (List ℕ)) (voice : Voice)
     (why : Option ListenerEnd) (was_failed failed : Bool) (served : Outcome) (fault_is : served.fault ≡ fault_after why) where
-  by_stop : (s now : SenderEnd) (is_first : Bool) (taken : List CommitOf) → Appends before opened copy_both_response
+  by_stop : (s now : SenderEnd) (is_first : Bool) (taken : List CommitOf) → (s ≡ sender_end.Finished → HasEnded why)
+      → Appends before opened copy_both_response
       → StopsAs s opened sent taken voice (started_telling checked slot start copy_both_response)
       → (s ≡ sender_end.WriteFault → was_failed ≡ true) → served.slot ≡ Some slot → served.start ≡ Some start
       → commits_of served ≡ taken → served.end ≡ chosen now is_first why
       → SaysLast s now why sent last was_failed failed
       → Streams checked slot start before last failed why served
-  by_stop sender_end.ConnectionEnded now is_first taken put stops fails slot_is start_is taken_is end_is says =
+  by_stop sender_end.ConnectionEnded now is_first taken out put stops fails slot_is start_is taken_is end_is says =
       after_all checked slot start before opened sent last put taken voice why was_failed failed served slot_is
       start_is taken_is
       (ends_by now is_first why failed served.end
-      (λ same. absurd (not_fault sender_end.ConnectionEnded now why says.last (λ no. cc) says.closing same)) end_is)
+      (λ same. absurd (not_fault sender_end.ConnectionEnded now why says.last (λ no. cc) says.closing same))
+      (λ same. absurd (not_finished sender_end.ConnectionEnded now why says.last (λ no. cc) says.closing same)) end_is)
       fault_is (memory_first now is_first why served.end end_is)
-      sender_end.ConnectionEnded now stops says (λ same client. refused_end now is_first why same (sym end_is ∙ client))
-  by_stop sender_end.Finished now is_first taken put stops fails slot_is start_is taken_is end_is says =
+      sender_end.ConnectionEnded now stops says (λ same. end_is ∙ refused_end now is_first why same)
+  by_stop sender_end.Finished now is_first taken out put stops fails slot_is start_is taken_is end_is says =
       after_all checked slot start before opened sent last put taken voice why was_failed failed served slot_is
       start_is taken_is
       (ends_by now is_first why failed served.end
-      (λ same. absurd (not_fault sender_end.Finished now why says.last (λ no. cc) says.closing same)) end_is)
+      (λ same. absurd (not_fault sender_end.Finished now why says.last (λ no. cc) says.closing same))
+      (λ same. out refl) end_is)
       fault_is (memory_first now is_first why served.end end_is)
-      sender_end.Finished now stops says (λ same client. refused_end now is_first why same (sym end_is ∙ client))
-  by_stop sender_end.WriteFault now is_first taken put stops fails slot_is start_is taken_is end_is says =
+      sender_end.Finished now stops says (λ same. end_is ∙ refused_end now is_first why same)
+  by_stop sender_end.WriteFault now is_first taken out put stops fails slot_is start_is taken_is end_is says =
       let failing : failed ≡ true = says.same ∙ fails refl in
       let is : served.end ≡ chosen sender_end.WriteFault is_first why =
       end_is ∙ ap (λ (s : SenderEnd). chosen s is_first why) says.now_is in
       after_part checked slot start before opened sent last put taken voice why was_failed failed served slot_is
       start_is taken_is
-      (ends_by sender_end.WriteFault is_first why failed served.end (λ same. failing) is)
+      (ends_by sender_end.WriteFault is_first why failed served.end (λ same. failing) (λ no. cc) is)
       fault_is (memory_first now is_first why served.end end_is) sender_end.WriteFault now stops says
       (λ sound. cc)
-      (λ finished. unfinished sender_end.WriteFault is_first why (λ no. cc) (sym is ∙ finished)) (λ sound client. cc)
-  by_stop sender_end.OutOfMemory now is_first taken put stops fails slot_is start_is taken_is end_is says =
+      (λ finished. unfinished sender_end.WriteFault is_first why (λ no. cc) (sym is ∙ finished)) (λ sound other. cc)
+  by_stop sender_end.OutOfMemory now is_first taken out put stops fails slot_is start_is taken_is end_is says =
       let is : served.end ≡ chosen sender_end.OutOfMemory is_first why =
       end_is ∙ ap (λ (s : SenderEnd). chosen s is_first why) says.now_is in
       after_part checked slot start before opened sent last put taken voice why was_failed failed served slot_is
       start_is taken_is
-      (ends_by sender_end.OutOfMemory is_first why failed served.end (λ no. cc) is)
+      (ends_by sender_end.OutOfMemory is_first why failed served.end (λ no. cc) (λ no. cc) is)
       fault_is (memory_first now is_first why served.end end_is) sender_end.OutOfMemory now stops.breaks says
       (λ sound. stops.none)
       (λ finished. unfinished sender_end.OutOfMemory is_first why (λ no. cc) (sym is ∙ finished))
-      (λ sound client. refused_end sender_end.OutOfMemory is_first why refl (sym is ∙ client))
+      (λ sound other. other (is ∙ refused_end sender_end.OutOfMemory is_first why refl))
 
 pub streams_to_its_end : (checked : CheckedOf) (slot start : ℕ) (before opened sent last : Option (List ℕ))
     (voice old_voice : Voice) (why : Option ListenerEnd) (was_failed failed : Bool) (served : Outcome) (did : Sent)
     → Opens checked slot start before opened old_voice
     → StopsAs did.stop opened sent (map (λ commit. arc_value commit) did.taken.items) voice
     (started_telling checked slot start copy_both_response) → (did.stop ≡ sender_end.WriteFault → was_failed ≡ true)
-    → Concludes slot start did why sent last was_failed failed served
+    → (did.stop ≡ sender_end.Finished → HasEnded why) → Concludes slot start did why sent last was_failed failed served
     → Streams checked slot start before last failed why served
 streams_to_its_end checked slot start before opened sent last voice old_voice why was_failed failed served did opens
-    stops fails concludes =
+    stops fails out concludes =
     by_stop checked slot start before opened sent last voice why was_failed failed served concludes.fault_is did.stop
     concludes.stop
     did.is_first
-    (map (λ commit. arc_value commit) did.taken.items) opens.put stops fails concludes.slot_is
+    (map (λ commit. arc_value commit) did.taken.items) out opens.put stops fails concludes.slot_is
     concludes.start_is (ap (λ taken. map (λ commit. arc_value commit) taken.items) concludes.taken_is)
     concludes.end_is concludes.says
 
@@ -297,7 +308,7 @@ module _ (checked : CheckedOf) (slot start : ℕ) (before last : Option (List �
   without : (written rest : List ℕ) → Appends before last written → written ++ rest ≡ copy_both_response
       → served.slot ≡ Some slot → served.start ≡ Some start → served.taken.items ≡ []
       → (failed ≡ false → served.end ≢ end.Link fault.OutOfMemory → rest ≡ []) → (served.end ≡ end.Finished → ⊥)
-      → (failed ≡ false → served.end ≡ end.Client → ⊥) → IsEndOf why failed served.end → served.fault ≡ fault_after why → Refuses
+      → (failed ≡ false → served.end ≢ end.Link fault.OutOfMemory → ⊥) → IsEndOf why failed served.end → served.fault ≡ fault_after why → Refuses
       → Streams checked slot start before last failed why served
   without written rest put bytes slot_is start_is none all not not_left ends fault_is refused =
       let no_commits : commits_of served ≡ [] = ap (map (λ commit. arc_value commit)) none in
@@ -316,7 +327,7 @@ module _ (checked : CheckedOf) (slot start : ℕ) (before last : Option (List �
         bytes = λ log are. bytes ∙ sym (append-nil copy_both_response) ∙ sym (append-nil (copy_both_response ++ []));
         all = all;
         whole = λ finished. absurd (not finished);
-        answered = λ sound client done. absurd (not_left sound client);
+        answered = λ sound other done. absurd (not_left sound other);
         ends = ends;
         fault_is = fault_is;
         refused = refused;
@@ -327,14 +338,14 @@ module _ (checked : CheckedOf) (slot start : ℕ) (before last : Option (List �
       → Streams checked slot start before last failed why served
   not_opened is fails without_it not ends refused =
       without fails.written fails.rest fails.put fails.bytes without_it.slot_is without_it.start_is without_it.none
-      (λ sound memory. cc) (λ finished. not (sym without_it.end_is ∙ finished)) (λ sound client. cc) ends
+      (λ sound memory. cc) (λ finished. not (sym without_it.end_is ∙ finished)) (λ sound other. cc) ends
       without_it.fault_is refused
 
   starved : Appends before last [] → IsWithout slot start (fault_after why) (end.Link fault.OutOfMemory) served
       → Streams checked slot start before last failed why served
   starved put is =
       without [] copy_both_response put refl is.slot_is is.start_is is.none
-      (λ sound memory. absurd (memory is.end_is)) (λ finished. cc) (λ sound client. cc) (Memory is.end_is)
+      (λ sound memory. absurd (memory is.end_is)) (λ finished. cc) (λ sound other. other is.end_is) (Memory is.end_is)
       is.fault_is (λ some. is.end_is)
 
   -- it was not heard any further
@@ -366,5 +377,5 @@ module _ (checked : CheckedOf) (slot start : ℕ) (before last : Option (List �
       → Streams checked slot start before last failed why served
   streams_no_further put is =
       without copy_both_response [] put (append-nil copy_both_response) is.slot_is is.start_is is.none
-      (λ sound memory. refl) (λ finished. cc) (λ sound client. cc) (Memory is.end_is) is.fault_is
+      (λ sound memory. refl) (λ finished. cc) (λ sound other. other is.end_is) (Memory is.end_is) is.fault_is
       (λ some. is.end_is)

@@ -11,20 +11,20 @@ use Rattle.publisher_desk.specs.Viewers.{ClosingOf, IsSeenIn}
 use Rattle.senders.specs.Closing.{HadStreamIn}
 use Rattle.senders.specs.Histories.{AreWitnessed}
 use Rattle.senders.specs.Results.{IsWitnessed, ServedOf, taken_from}
-use Rattle.senders.specs.TakenCommits.{IsTaken, IsWhole}
+use Rattle.senders.specs.TakenCommits.{IsTaken, IsComplete}
 use Rattle.senders.proofs.BeginningLemmas.{at_in_log, length_seen, stream_longer}
 use Rattle.senders.proofs.LoggedLemmas.{long}
 
--- one that stops early is not the log's
-pub not_taken : (log : List CommitOf) (served : List ServedOf) → ¬ All (IsWhole log) served
+-- one that is not complete is not the log's
+pub not_taken : (log : List CommitOf) (served : List ServedOf) → ¬ All (IsComplete log) served
     → ¬ All (IsTaken log) served
 not_taken log served short taken =
-    short (All-weaker (IsTaken log) (IsWhole log) (λ one its. its.whole) served taken)
+    short (All-weaker (IsTaken log) (IsComplete log) (λ one its. its.complete) served taken)
 
 module _ (book : Book) (closing : ClosingOf) (acquired : ℕ) (seats : List SeatOf) (served : List ServedOf)
     (told : AreWitnessed (book_checked book) closing acquired seats served book) where
-  pub taken_all : All (IsWhole (book_log book)) served → All (IsTaken (book_log book)) served
-  taken_all whole place other below =
+  pub taken_all : All (IsComplete (book_log book)) served → All (IsTaken (book_log book)) served
+  taken_all complete place other below =
       let one : ServedOf = get_or served place other in
       let its : IsWitnessed (book_checked book) one = told.witnessed place other below in
       let seen : IsSeenIn closing one.viewer = told.seen place other below in
@@ -37,7 +37,7 @@ module _ (book : Book) (closing : ClosingOf) (acquired : ℕ) (seats : List Seat
         at = subst (λ (log : List CommitOf). AreAt log (taken_from one) one.taken) (sym told.logged.stands.log)
             (at_in_log (book_checked book) closing.log one.viewer.seen (taken_from one) one.taken seen.log
             its.taken);
-        whole = whole place other below;
+        complete = complete place other below;
       }
 
   pub had_all : All (HadStreamIn closing.events) served
@@ -45,5 +45,5 @@ module _ (book : Book) (closing : ClosingOf) (acquired : ℕ) (seats : List Seat
       let one : ServedOf = get_or served place other in
       let its : IsWitnessed (book_checked book) one = told.witnessed place other below in
       let seen : IsSeenIn closing one.viewer = told.seen place other below in
-      stream_longer one.slot one.start one.is_requested one.number one.confirmed (length one.viewer.seen) closing.events
-      one.viewer.events seen.slots its.had
+      stream_longer one.slot one.start one.is_requested one.number one.confirmed one.sent (length one.viewer.seen)
+      closing.events one.viewer.events seen.slots its.had

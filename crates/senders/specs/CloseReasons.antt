@@ -5,6 +5,7 @@ use Rattle.publisher_desk.specs.Counting.{IsCounted}
 use Rattle.publisher_desk.specs.Logged.{AreSeatsIn}
 use Rattle.publisher_desk.specs.Seats.{SeatOf}
 use Rattle.publisher_desk.specs.SlotEvents.{acquisitions}
+use Rattle.publisher_desk.specs.SlotSights.{BeginsWith}
 use Rattle.publisher_desk.specs.Viewers.{ClosingOf, IsAcceptedLog, IsSeenIn, log_seen}
 use Rattle.senders.specs.Gathering.{all_receipts}
 use Rattle.senders.specs.Reached.{AllEndReached, AreReached, IsOrder, LacksConnection}
@@ -49,13 +50,14 @@ IsReasonToRefuse checked all left closing seats served OutOfMemory = Unit {0}
 
 -- The publisher's log has this number of commits at most, each of which was accepted after those before it. It has no
 -- fewer commits than the seats have receipts, and exactly as many if no seat is held back. The receipts and readings of
--- the seats agree with it. What each connection has seen is a beginning of this log and the first events of the slots.
--- These are the reason.
+-- the seats agree with it. What each seat and each connection has seen is a beginning of this log and the first events
+-- of the slots. These are the reason.
 pub record RefusedClose (checked : CheckedOf) (limit all left : ℕ) (closing : ClosingOf) (seats : List SeatOf)
     (served : List ServedOf) (error : CloseError) : Type 0 where
   pub accepted : IsAcceptedLog checked closing.log
   pub room : length closing.log ≤ limit
   pub counted : IsCounted all left seats (length closing.log)
   pub logged : AreSeatsIn (setting_in checked) closing.log seats
+  pub shown : All (λ (seat : SeatOf). BeginsWith closing.events seat.events) seats
   pub seen : All (λ (one : ServedOf). IsSeenIn closing one.viewer) served
   pub reason : IsReasonToRefuse checked all left closing seats served error

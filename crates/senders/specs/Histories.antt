@@ -11,6 +11,7 @@ use Rattle.publisher_desk.specs.Logged.{IsSeatIn, drawn_by}
 use Rattle.publisher_desk.specs.Receipts.{ReceiptOf, transactions_of}
 use Rattle.publisher_desk.specs.Seats.{SeatOf}
 use Rattle.publisher_desk.specs.SlotEvents.{AreConfirmed, AreInTurn, acquisitions, confirmed_after, no_position, no_use}
+use Rattle.publisher_desk.specs.SlotSights.{BeginsWith}
 use Rattle.publisher_desk.specs.Viewers.{ClosingOf, IsSeenIn}
 use Rattle.publisher_desk.specs.declared.note.Reading.{Reading}
 use Rattle.senders.specs.Gathering.{all_receipts, numbers_of, IsRisingSeat}
@@ -37,11 +38,12 @@ pub record IsLogOfSeats (checked : CheckedOf) (log : List ReceiptOf) (seats : Li
   pub once : (n : ℕ) → drawn_by n seats ≤ 1
 
 -- The book is of the log of a publisher that is being closed, in which the receipts of the seats are, and of which each
--- connection has seen a beginning. So many streams acquired slots in its events, of which each has seen the first.
--- These came in turn, and each slot is confirmed up to the position of its last confirmation.
+-- connection has seen a beginning. So many streams acquired slots in its events, of which each seat and each connection
+-- has seen the first. These came in turn, and each slot is confirmed up to the position of its last confirmation.
 pub record AreWitnessed (checked : CheckedOf) (closing : ClosingOf) (acquired : ℕ) (seats : List SeatOf)
     (served : List ServedOf) (book : Book) : Type 0 where
   pub logged : IsLogOfSeats checked closing.log seats book
+  pub shown : All (λ (seat : SeatOf). BeginsWith closing.events seat.events) seats
   pub witnessed : All (IsWitnessed checked) served
   pub seen : All (λ (one : ServedOf). IsSeenIn closing one.viewer) served
   pub count : acquired ≡ acquisitions closing.events

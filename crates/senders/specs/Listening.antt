@@ -1,5 +1,5 @@
 -- What a listener does with what it reads: PostgreSQL 15, 55.4. Streaming Replication Protocol.
-use Rattle.std.specs.Prelude.{◌≡◌, ℕ, ◌<◌, ◌≤◌, max, Bool, true, false, List, ◌++◌, length, slice_index, take, Option, Some, None, Result, Ok, Err}
+use Rattle.std.specs.Prelude.{◌≡◌, ℕ, ◌<◌, ◌≤◌, max, Bool, true, false, List, ◌++◌, length, slice_index, take, Option, Some, None, Result, Ok, Err, IfErr}
 use Rattle.std.specs.Io.KnownBytes.{Consumes}
 use Rattle.filter_tree.specs.Memory.{Answers}
 use Rattle.shard_checker.specs.CheckedView.{CheckedOf}
@@ -10,7 +10,7 @@ use Rattle.tables_log.specs.declared.book.Book.{Book}
 use Rattle.tables_log.specs.declared.slots.Slot.{Slot}
 use Rattle.copy_both.specs.ConfirmedFrames.{HasConfirmedAll}
 use Rattle.copy_both.specs.Ears.{HearLeaves, ear_confirmed, ear_phase, ear_refusal, ear_started, hear_answer}
-use Rattle.copy_both.specs.HeardFrames.{frames_in, AsksIfStarted, BooksOf, HasEnd, HasHeard, Requests}
+use Rattle.copy_both.specs.HeardFrames.{frames_in, AsksIfStarted, BooksOf, HasEnd, HasHeard, IsAnswered, IsTerminated, Requests, SentNone}
 use Rattle.copy_both.specs.Voices.{reported_fault}
 use Rattle.copy_both.specs.declared.heard.Heard.{Heard}
 use Rattle.copy_both.specs.declared.link_fault.LinkFault.{LinkFault}
@@ -23,8 +23,8 @@ use Rattle.publisher_desk.specs.declared.slot_event.Confirmation.{Confirmation}
 use Rattle.publisher_desk.specs.declared.slot_sight.Hold.{Hold}
 use Rattle.senders.specs.Confirming.{ConfirmsBy, ReportsIf}
 use Rattle.senders.specs.Refusing.{fault_by}
-use Rattle.senders.specs.Results.{StartsFrom, acquisition, books_seen}
-use Rattle.senders.specs.Hearing.{Faults, IsSentFrom, StaysStarted, sent_by}
+use Rattle.senders.specs.Results.{StartsFrom, acquisition, book_seen, books_seen}
+use Rattle.senders.specs.Hearing.{Faults, IsSentFrom, IsSilent, StaysStarted, sent_by}
 use Rattle.senders.specs.declared.beginning.Beginning.{Beginning}
 use Rattle.senders.specs.declared.beginning.Beginning.TheVariants as beginning
 use Rattle.senders.specs.declared.listener_end.ListenerEnd.{ListenerEnd}
@@ -59,14 +59,9 @@ abbrev pub IsHolding : ViewerOf → Listener → Type 0
 IsHolding viewer listener = HoldsStream (ear_started listener.ear) listener.is_requested listener.number
     (ear_confirmed listener.ear) viewer.held
 
--- the slot of the stream that was started
-abbrev pub slot_of : Option (ℕ × ℕ) → Option ℕ
-slot_of None = None
-slot_of (Some started) = Some started.0
-
 -- The connection has the slot of the stream that its listener started, if it started one.
 abbrev pub HasItsSlot : ViewerOf → Listener → Type 0
-HasItsSlot viewer listener = HoldsIf viewer.held (slot_of (ear_started listener.ear))
+HasItsSlot viewer listener = HoldsIf viewer.held (ear_started listener.ear)
 
 -- It has heard these bytes, and its connection has seen this.
 pub record HasListened (checked : CheckedOf) (viewer : ViewerOf) (bytes : List ℕ) (listener : Listener) : Type 0 where
@@ -135,12 +130,18 @@ NotesStartIf was_started confirmed number before after None =
 NotesStartIf was_started confirmed number before after (Some one) =
     NotesStart was_started confirmed number before after one
 
--- What is confirmed for the slot of this stream is what was confirmed before, or it is noted.
+-- What is confirmed for the slot of this stream is what was confirmed before, or it is noted. So is a status that was
+-- ahead.
 abbrev pub NotesConfirmed : Option (ℕ × ℕ) → List ℕ → List Slot → Option Confirmation → Type 0
 NotesConfirmed started before slots None = (slot start : ℕ) → started ≡ Some (slot, start)
     → (slot < length before) × (confirmed_at slots slot ≡ slice_index before slot)
 NotesConfirmed started before slots (Some one) =
-    (slot_of started ≡ Some one.slot) × (one.position ≡ confirmed_at slots one.slot)
+    ((start : ℕ) × (started ≡ Some (one.slot, start))) × (one.position ≡ confirmed_at slots one.slot)
+
+-- A status of a stream that was ahead is noted.
+abbrev pub NotesAhead : Option (ℕ × ℕ) → Result Heard LinkFault → Option Confirmation → Type 0
+NotesAhead started heard noted = heard ≡ Err StatusAhead → (stream : ℕ × ℕ) → started ≡ Some stream
+    → (one : Confirmation) × (noted ≡ Some one) × (one.is_ahead ≡ true)
 
 -- The ear heard the piece, with the sent position of the slot's connection. A status is ahead only of a log that has
 -- the start of the stream.
@@ -156,12 +157,20 @@ pub record HeardPiece (before after : Listener) (old new : Book) (connections : 
 
 -- ---- outside of it
 
+-- If it started no stream, a start that it refuses is refused by the book that the publisher has, as its connection has
+-- then seen, and has its response; and before another fault there was none, unless memory was refused.
+abbrev pub RefusesNow : CheckedOf → ViewerOf → List ℕ → Listener → Result Heard LinkFault → Type 0
+RefusesNow checked viewer bytes listener heard = ear_started listener.ear ≡ None
+    → IfErr heard (λ fault. IsAnswered checked (book_seen viewer) (frames_in bytes) (ear_refusal listener.ear) fault
+    × SentNone (frames_in bytes) fault)
+
 -- What it says with the piece is so, and what its connection then has, whatever it had heard before.
 pub record SaysOfPiece (checked : CheckedOf) (was now : ViewerOf) (piece : List ℕ) (old new : Listener)
     (heard : Result Heard LinkFault) : Type 0 where
   pub each : (bytes : List ℕ) → HasListened checked was bytes old → SaysRequested (bytes ++ piece) new
   pub confirms : (bytes : List ℕ) → HasListened checked was bytes old
-      → ConfirmsBy (ear_started new.ear) (frames_in (bytes ++ piece)) heard (ear_confirmed new.ear)
+      → ConfirmsBy (ear_started new.ear) new.number now.events (frames_in (bytes ++ piece)) heard (ear_confirmed new.ear)
+  pub refuses : (bytes : List ℕ) → HasListened checked was bytes old → RefusesNow checked now (bytes ++ piece) new heard
   pub holding : (bytes : List ℕ) → HasListened checked was bytes old → IsHolding now new
   pub mine : HasItsSlot was old → HasItsSlot now new
   pub sees : SeesMore was now
@@ -179,6 +188,7 @@ pub record HearsMore (checked : CheckedOf) (was now : ViewerOf) (before after : 
   pub sees : SeesMore was now
   pub mine : HasItsSlot was old → HasItsSlot now new
   pub heard : (bytes : List ℕ) → HasListened checked was bytes old → HearsOn checked now (bytes ++ more) old new
+  pub started : HasStarted old → HasStarted new
   pub room : length new.piece.items ≡ length old.piece.items
 
 -- Why it ended, by the bytes, by the response that it has to a refused start, and by what the source says of itself.
@@ -189,13 +199,28 @@ EndsFor checked known bytes started response failed ended (listener_end.Frame ki
 EndsFor checked known bytes started response failed ended (listener_end.Fault fault) =
     Faults checked known bytes started response fault
 
+-- what its client had sent if it started no stream: no whole frame, Terminate first, or a start that was refused
+abbrev pub HasSentNone : List ℕ → ListenerEnd → Type 0
+HasSentNone bytes listener_end.SourceFailed = IsSilent bytes
+HasSentNone bytes listener_end.SourceEnded = IsSilent bytes
+HasSentNone bytes (listener_end.Frame kind) = IsTerminated (frames_in bytes)
+HasSentNone bytes (listener_end.Fault fault) = SentNone (frames_in bytes) fault
+
+-- a start that was refused last
+abbrev pub RefusesLast : CheckedOf → ViewerOf → List ℕ → Listener → ListenerEnd → Type 0
+RefusesLast checked viewer bytes listener (listener_end.Fault fault) =
+    RefusesNow checked viewer bytes listener (Err fault)
+RefusesLast checked viewer bytes listener other = Unit {0}
+
 pub record EndsOf (checked : CheckedOf) (viewer : ViewerOf) (bytes : List ℕ) (old new : Listener)
     (failed ended : Bool) (why : ListenerEnd) : Type 0 where
   pub asks : AsksIfStarted checked (books_seen viewer) (frames_in bytes) (ear_started new.ear)
   pub ends : EndsFor checked (books_seen viewer) bytes (ear_started new.ear) (ear_refusal new.ear) failed ended why
   pub stays : StaysStarted old.ear new.ear
   pub requested : SaysRequested bytes new
-  pub reports : ReportsIf (ear_started new.ear) bytes (fault_by why) (ear_confirmed new.ear)
+  pub reports : ReportsIf (ear_started new.ear) new.number viewer.events bytes (fault_by why) (ear_confirmed new.ear)
+  pub none : ear_started new.ear ≡ None → HasSentNone bytes why
+  pub refuses : RefusesLast checked viewer bytes new why
   pub holding : IsHolding viewer new
 
 -- More bytes were read and heard, and the listener ended.
@@ -233,6 +258,10 @@ abbrev pub HearsAll : CheckedOf → ViewerOf → ViewerOf → Option (List ℕ) 
 HearsAll checked was now before after failed ended old new None = HearsMore checked was now before after old new
 HearsAll checked was now before after failed ended old new (Some why) =
     HearsLast checked was now before after failed ended old new why
+
+-- Its listener ended for some reason.
+abbrev pub HasEnded : Option ListenerEnd → Type 0
+HasEnded why = (ending : ListenerEnd) × (why ≡ Some ending)
 
 -- ---- until a stream starts
 

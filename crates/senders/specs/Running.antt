@@ -15,6 +15,7 @@ use Rattle.senders.specs.declared.end.End.{End}
 use Rattle.senders.specs.declared.end.End.TheVariants as end
 use Rattle.senders.specs.declared.outcome.Outcome.{Outcome}
 use Rattle.copy_both.specs.Ears.{ear_refusal}
+use Rattle.publisher_desk.specs.Sights.{StartsWith}
 use Rattle.publisher_desk.specs.Viewers.{HasReleased, SeesMore, ViewerOf, new_viewer}
 use Rattle.stream_laws.specs.LayoutRoom.{IsClocked}
 use Rattle.senders.specs.Causes.{chosen}
@@ -49,11 +50,11 @@ pub record Concludes (slot start : ℕ) (sent : Sent) (why : Option ListenerEnd)
   pub fault_is : outcome.fault ≡ fault_after why
   pub says : SaysLast sent.stop stop why before after was_failed failed
 
--- the sink failed, memory was refused, all was taken up, or the listener ended so
+-- the sink failed, memory was refused, all was taken up and the client heard to its end, or the listener ended so
 pub data IsEndOf (why : Option ListenerEnd) (failed : Bool) (is : End) : Type 0 where
   Writing : is ≡ end.WriteFault → failed ≡ true → IsEndOf why failed is
   Memory : is ≡ end.Link fault.OutOfMemory → IsEndOf why failed is
-  Whole : is ≡ end.Finished → IsEndOf why failed is
+  Whole : (ending : ListenerEnd) → why ≡ Some ending → is ≡ end.Finished → IsEndOf why failed is
   Heard : (ending : ListenerEnd) → why ≡ Some ending → is ≡ cause_by ending → IsEndOf why failed is
 
 -- What was written is a first part of the stream of the commits that were taken up, and then of what was said last.
@@ -74,7 +75,7 @@ pub record Streams (checked : CheckedOf) (slot start : ℕ) (before after : Opti
       → written ++ rest ≡ stream (telling_of checked) log slot (length checked.catalog.tables) start moves ++ last
   pub all : failed ≡ false → outcome.end ≢ end.Link fault.OutOfMemory → rest ≡ []
   pub whole : outcome.end ≡ end.Finished → IsTail rest last
-  pub answered : failed ≡ false → outcome.end ≡ end.Client → why ≡ Some (listener_end.Frame 99)
+  pub answered : failed ≡ false → outcome.end ≢ end.Link fault.OutOfMemory → why ≡ Some (listener_end.Frame 99)
       → IsTail copy_done written
   pub ends : IsEndOf why failed outcome.end
   pub fault_is : outcome.fault ≡ fault_after why
@@ -114,7 +115,9 @@ pub data ServesOut (checked : CheckedOf) (was now : ViewerOf) (left now_left : O
       → ServesOut checked was now left now_left source_failed source_ended before after sink_failed old new sender
       outcome
 
--- a connection that has a slot releases it
-abbrev pub ReleasesIf : Option ℕ → ViewerOf → ViewerOf → Type 0
-ReleasesIf None old new = new ≡ old
-ReleasesIf (Some slot) old new = HasReleased old new × SeesMore old new
+-- A connection that has a slot, whose client was sent the log up to here, has then seen what its sender has seen, and
+-- releases it.
+abbrev pub ReleasesIf : Option ℕ → ℕ → ViewerOf → ViewerOf → ViewerOf → Type 0
+ReleasesIf None sent old sender new = (new ≡ old) × (sent ≡ 0)
+ReleasesIf (Some slot) sent old sender new =
+    HasReleased sent old new × SeesMore old new × StartsWith new.seen sender.seen

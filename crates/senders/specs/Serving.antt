@@ -6,7 +6,7 @@ use Rattle.shard_checker.specs.CheckedView.{CheckedOf}
 use Rattle.tables_log.specs.Commits.{CommitOf}
 use Rattle.copy_frames.specs.Contents.{copy_done}
 use Rattle.copy_frames.specs.declared.frame.Frame.{Frame}
-use Rattle.copy_both.specs.HeardFrames.{AsksFor, BooksOf, HasEnd, IsRefusedStart, Requests, frames_in}
+use Rattle.copy_both.specs.HeardFrames.{AsksFor, BooksOf, HasEnd, IsRefusedStart, IsTerminated, Requests, SentNone, frames_in}
 use Rattle.copy_both.specs.Refusals.{error_response}
 use Rattle.copy_both.specs.Streams.{Move, stream}
 use Rattle.tables_log.specs.Lsn.{commits_before}
@@ -18,9 +18,9 @@ use Rattle.copy_both.specs.declared.sql_state.SqlState.{SqlState}
 use Rattle.senders.specs.declared.end.End.{End}
 use Rattle.senders.specs.declared.end.End.TheVariants as end
 use Rattle.senders.specs.Confirming.{FitsEnd, ReportsIf}
-use Rattle.senders.specs.Results.{ServedOf, books_seen}
+use Rattle.senders.specs.Results.{ServedOf, book_seen, books_seen}
 use Rattle.stream_laws.specs.LayoutRoom.{IsClocked}
-use Rattle.senders.specs.Hearing.{HoldsFault}
+use Rattle.senders.specs.Hearing.{HoldsFault, IsSilent}
 
 -- ---- what was written
 
@@ -64,7 +64,6 @@ pub record IsResponse (checked : CheckedOf) (known : BooksOf) (frames : List Fra
 abbrev pub IsUnstartedAnswer : CheckedOf → BooksOf → List Frame → List ℕ → Bool → End → Type 0
 IsUnstartedAnswer checked known frames written failed (end.Link (fault.BadStart state)) =
     IsResponse checked known frames state written failed
-IsUnstartedAnswer checked known frames written failed end.Finished = ⊥
 IsUnstartedAnswer checked known frames written failed other = written ≡ []
 
 pub record IsUnstarted (checked : CheckedOf) (known : BooksOf) (frames : List Frame) (taken : List CommitOf)
@@ -72,15 +71,15 @@ pub record IsUnstarted (checked : CheckedOf) (known : BooksOf) (frames : List Fr
   pub none : taken ≡ []
   pub answer : IsUnstartedAnswer checked known frames written failed why
 
--- a slot is reported together with a start
-abbrev pub IsWritten : CheckedOf → BooksOf → List Frame → Option ℕ → Option ℕ → List CommitOf → List ℕ → Bool → End
-    → Type 0
-IsWritten checked known frames (Some slot) (Some start) taken written failed why =
+-- A slot is reported together with a start. A start that was refused was refused by the last of the books.
+abbrev pub IsWritten : CheckedOf → BooksOf → BooksOf → List Frame → Option ℕ → Option ℕ → List CommitOf → List ℕ → Bool
+    → End → Type 0
+IsWritten checked known last frames (Some slot) (Some start) taken written failed why =
     IsStream checked known frames slot start taken written failed why
-IsWritten checked known frames None None taken written failed why =
-    IsUnstarted checked known frames taken written failed why
-IsWritten checked known frames (Some slot) None taken written failed why = ⊥
-IsWritten checked known frames None (Some start) taken written failed why = ⊥
+IsWritten checked known last frames None None taken written failed why =
+    IsUnstarted checked last frames taken written failed why
+IsWritten checked known last frames (Some slot) None taken written failed why = ⊥
+IsWritten checked known last frames None (Some start) taken written failed why = ⊥
 
 -- ---- why it ended
 
@@ -112,26 +111,50 @@ pub data HasClientLeft (source_ended : Bool) (frames : List Frame) (written : Li
   Otherwise : (kind : ℕ) → HasEnd frames kind → kind ≢ 99 → HasClientLeft source_ended frames written
   Answered : IsTail copy_done written → HasClientLeft source_ended frames written
 
+-- how far its client was heard, which has this fault or none: there was nothing more to read, the source failed, a frame
+-- ended the connection, or the fault did; a CopyDone was answered, unless the sink failed
+pub data IsHeardOut (frames : List Frame) (source_failed source_ended sink_failed : Bool) (written : List ℕ)
+    (found : Option LinkFault) : Type 0 where
+  AllRead : source_ended ≡ true → IsHeardOut frames source_failed source_ended sink_failed written found
+  Broken : source_failed ≡ true → IsHeardOut frames source_failed source_ended sink_failed written found
+  Parted : (kind : ℕ) → HasEnd frames kind → (kind ≡ 99 → sink_failed ≡ false → IsTail copy_done written)
+      → IsHeardOut frames source_failed source_ended sink_failed written found
+  Faulty : (fault : LinkFault) → found ≡ Some fault
+      → IsHeardOut frames source_failed source_ended sink_failed written found
+
+-- its client had sent no whole frame, or Terminate first, or a start that was refused, unless memory was refused
+abbrev pub HasAskedNothing : List ℕ → End → Type 0
+HasAskedNothing bytes end.Client = IsSilent bytes ⊎ IsTerminated (frames_in bytes)
+HasAskedNothing bytes end.ReadFault = IsSilent bytes
+HasAskedNothing bytes end.WriteFault = ⊥
+HasAskedNothing bytes end.Finished = ⊥
+HasAskedNothing bytes (end.Link fault) = SentNone (frames_in bytes) fault
+
 -- ---- all of it
 
--- What came of a connection from which these bytes were read. Starts and refusals are those of a book that the
--- publisher has had. If it says that its client requested the position where the stream starts, the first frame does.
+-- What came of a connection from which these bytes were read. Starts are those of a book that the publisher has had, and
+-- a start is refused by the book that it had when the connection had seen just what it has seen in the end. If it says that its client requested the position where the stream starts, the first frame does.
 -- It reports the greatest position that the statuses that were heard confirm. If it reports a fault of what the client
--- sent, other than out of memory, the bytes have it, and a fault that is reported as the end is that one.
+-- sent, other than out of memory, the bytes have it, and a fault that is reported as the end is that one. If it was
+-- finished, its client was heard out; and if no stream was started, its client had requested none.
 pub record IsServedFor (checked : CheckedOf) (bytes : List ℕ) (source_failed source_ended : Bool)
     (before after : Option (List ℕ)) (sink_failed : Bool) (served : ServedOf) : Type 0 where
   pub written : List ℕ
   pub put : Appends before after written
-  pub is : IsWritten checked (books_seen served.viewer) (frames_in bytes) served.slot served.start served.taken written
-      sink_failed served.end
+  pub is : IsWritten checked (books_seen served.viewer) (book_seen served.viewer) (frames_in bytes) served.slot
+      served.start served.taken written sink_failed served.end
   pub cause : IsEndCause checked (books_seen served.viewer) bytes (started_of served.slot served.start) source_failed
       source_ended sink_failed served.end
   pub requested : (slot start : ℕ) → served.slot ≡ Some slot → served.start ≡ Some start
       → served.is_requested ≡ true → Requests (frames_in bytes) slot start
-  pub reports : ReportsIf (started_of served.slot served.start) bytes served.fault served.confirmed
+  pub reports : ReportsIf (started_of served.slot served.start) served.number served.viewer.events bytes served.fault
+      served.confirmed
   pub fault : (found : LinkFault) → served.fault ≡ Some found
       → HoldsFault checked (books_seen served.viewer) bytes (started_of served.slot served.start) found
   pub fits : FitsEnd served.end served.fault
+  pub asked : served.slot ≡ None → HasAskedNothing bytes served.end
+  pub heard : (slot : ℕ) → served.slot ≡ Some slot → served.end ≡ end.Finished
+      → IsHeardOut (frames_in bytes) source_failed source_ended sink_failed written served.fault
   pub left : (slot : ℕ) → served.slot ≡ Some slot → sink_failed ≡ false → served.end ≡ end.Client
       → HasClientLeft source_ended (frames_in bytes) written
 

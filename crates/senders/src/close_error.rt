@@ -17,8 +17,9 @@ pub enum CloseError {
     /// A reading is not the row of its key after its number of commits.
     #[error("a reading differs from what the commits left")]
     ReadingWrong,
-    /// A connection that was finished stops before the log's end.
-    #[error("a finished connection stops before the end of the log")]
+    /// A connection that was finished stops before the log's end, or the commits that a connection took are not those
+    /// that count as sent to its client.
+    #[error("a connection took other commits than it was sent, or stops before the end of the log")]
     TakenDiffers,
     /// A stream acquired a slot, and its connection is not among those that were passed in.
     #[error("the result of a connection is missing")]

@@ -8,6 +8,7 @@ ghost use Rattle.tables_log.specs.declared.book.Book.{Book};
 ghost use Rattle.publisher_desk.specs.Counting.{IsCounted};
 ghost use Rattle.publisher_desk.specs.Logged.{AreSeatsIn};
 ghost use Rattle.publisher_desk.specs.Seats.{IsForwardSeat, IsTimedSeat};
+ghost use Rattle.publisher_desk.specs.SlotSights.{BeginsWith};
 ghost use Rattle.publisher_desk.specs.Viewers.{ClosingOf, IsSeenIn};
 ghost use Rattle.senders.specs.CloseCauses.{IsCloseCause};
 ghost use Rattle.senders.specs.CloseReasons.{RefusedClose};
@@ -23,7 +24,7 @@ use crate::numbering::{are_rising, rise};
 use crate::reaching::check_starts;
 use crate::replaying::replay;
 use crate::served::Served;
-use crate::taken::are_whole;
+use crate::taken::are_complete;
 use publisher_desk::{Closing, Publishing, Receipt, Seat, Seats};
 use std::alloc::Global;
 use std::sync::Arc;
@@ -104,7 +105,7 @@ fn compare<P: Publishing>(
     if !replay(fresh, book, receipts.as_slice(), readings.as_slice())? {
         return Err(CloseError::ReadingWrong);
     }
-    if !are_whole(book, served) {
+    if !are_complete(book, served) {
         return Err(CloseError::TakenDiffers);
     }
     check_starts(alloc, book, slots, acquired, served)
@@ -122,6 +123,30 @@ fn check_all<P: Publishing>(served: &mut [Served<P>], closing: &mut Closing<P>)
     }
 }
 
+/// Establishes of each seat that what it has seen of the events of the slots is a beginning of them.
+fn check_seats<P: Publishing>(seats: &mut [Seat<P>], closing: &mut Closing<P>)
+    ensures shown { All (λ seat. BeginsWith closing.old.events seat.events) seats.old }
+    ensures same { seats.new ≡ seats.old }
+    ensures closing { closing.new ≡ closing.old }
+{
+    for place in 0..seats.len() {
+        closing.check_seat(&mut seats[place]);
+    }
+}
+
+/// Compares the ledger and the history of the publisher with the seats.
+fn count_seats<P: Publishing>(closing: &mut Closing<P>, rest: &mut Seats<P>, seats: &mut [Seat<P>])
+    ensures counted { IsCounted P.parts rest.old seats.old (length closing.old.log) }
+    ensures logged { AreSeatsIn (setting_in P.checked) closing.old.log seats.old }
+    ensures shown { All (λ seat. BeginsWith closing.old.events seat.events) seats.old }
+    ensures same { closing.new ≡ closing.old }
+    ensures rest { rest.new ≡ rest.old }
+    ensures seats { seats.new ≡ seats.old }
+{
+    check_seats(seats, closing);
+    closing.count(rest, seats);
+}
+
 /// Compares the ledger and the history of the publisher with the seats, and the history with what the connections have
 /// seen.
 fn count_all<P: Publishing>(
@@ -132,6 +157,7 @@ fn count_all<P: Publishing>(
 )
     ensures counted { IsCounted P.parts rest.old seats.old.items (length closing.old.log) }
     ensures logged { AreSeatsIn (setting_in P.checked) closing.old.log seats.old.items }
+    ensures shown { All (λ seat. BeginsWith closing.old.events seat.events) seats.old.items }
     ensures seen { All (λ one. IsSeenIn closing.old one.viewer) served.old.items }
     ensures witnessed { All (IsWitnessed P.checked) served.old.items }
     ensures closing { closing.new ≡ closing.old }
@@ -140,23 +166,25 @@ fn count_all<P: Publishing>(
     ensures served { served.new.items ≡ served.old.items }
 {
     check_all(served.as_mut_slice(), closing);
-    closing.count(rest, seats.as_mut_slice());
+    count_seats(closing, rest, seats.as_mut_slice());
 }
 
 /// Closes a publisher whose sessions and connections are over: `closing` is what `Publisher::into_closing` returns.
 /// `rest` are the seats that were never handed out, `seats` those of the sessions, and `served` the results of the
 /// connections. The receipts of all seats are made again on a book without commits, in the order of their numbers:
-/// their commands have to be accepted, and each entry has to be that of the publisher's log. Each reading has to be the
-/// row of its key after the number of commits that it says. The commits that each connection took need no comparison,
-/// since its type says that they are those of the log from its start on; they have to reach the log's end if it was
-/// finished. Each stream that acquired a slot has to be that of a connection that is passed in. In the order of these
-/// acquisitions, each commit before the start of a connection has to be one that was taken for an earlier connection of
-/// its slot, whose client confirmed it, or to be before a position that its client, or that of an earlier one of the
-/// slot, requested. The same has to hold of each commit before the position up to which each slot of the publisher is
-/// confirmed, as if a stream that no client requested started there after all others. That no stream starts before a
-/// position that an earlier connection of its slot reports as confirmed, and that no slot is confirmed before such a
-/// position in the end, need no comparison, by the order of the events of the slots. The book that is returned is the
-/// one on which the receipts were made again. Its slots are free, and confirmed as far as the publisher's.
+/// their commands have to be accepted, and each entry has to be that of the publisher's log. Each reading has to be
+/// the row of its key after the number of commits that it says. The commits that each connection took need no
+/// comparison with the log, since its type says that they are those of the log from its start on; they have to reach
+/// the log's end if it was finished, and to be those that count as sent to its client, but for at most 64 more. So
+/// only the sender of a connection may ask for steps of its slot. Each stream that acquired a slot has to be that of a
+/// connection that is passed in. In the order of these acquisitions, each commit before the start of a connection has
+/// to be one that was taken for an earlier connection of its slot, whose client confirmed it, or to be before a
+/// position that its client, or that of an earlier one of the slot, requested. The same has to hold of each commit
+/// before the position up to which each slot of the publisher is confirmed, as if a stream that no client requested
+/// started there after all others. That no stream starts before a position that an earlier connection of its slot
+/// reports as confirmed, and that no slot is confirmed before such a position in the end, need no comparison, by the
+/// order of the events of the slots. The book that is returned is the one on which the receipts were made again. Its
+/// slots are free, and confirmed as far as the publisher's.
 ///
 /// `closing` and `rest` stay as they are. So a seat or a connection that is not passed in can be compared with them
 /// afterwards, by `Closing::count` or `Served::check`.

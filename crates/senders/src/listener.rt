@@ -1,6 +1,6 @@
 //! What hears a connection.
 
-ghost use Rattle.std.specs.Prelude.{◌≡◌, ℕ, ◌<◌, ◌≤◌, Err, IsTrue, false, length, slice_index};
+ghost use Rattle.std.specs.Prelude.{◌≡◌, ℕ, ◌<◌, ◌≤◌, Err, IsTrue, Some, false, length, slice_index, true};
 ghost use Rattle.filter_tree.specs.Memory.{Answers};
 ghost use Rattle.tables_log.specs.BookView.{book_log, book_slots};
 ghost use Rattle.tables_log.specs.Lsn.{end_lsn_of};
@@ -8,7 +8,8 @@ ghost use Rattle.tables_log.specs.Slots.{confirmed_at};
 ghost use Rattle.copy_both.specs.Ears.{HearLeaves, ear_phase, ear_started, hear_answer};
 ghost use Rattle.copy_both.specs.Voices.{reported_fault};
 ghost use Rattle.copy_both.specs.declared.link_fault.LinkFault.TheVariants.{StatusAhead};
-ghost use Rattle.senders.specs.Hearing.{IsSentFrom, sent_by};
+ghost use Rattle.publisher_desk.specs.SlotEvents.{AreSent, HaveEnded, ended_at, sent_at};
+ghost use Rattle.senders.specs.Hearing.{IsSentFrom, ended_started, sent_by, sent_started};
 
 use crate::confirming::confirmation;
 use crate::failed::Failed;
@@ -80,6 +81,17 @@ fn sent_position(started: Option<StreamStart>, connections: &[ConnectionState]) 
     }
 }
 
+/// Whether a status was ahead.
+fn is_status_ahead(heard: &Result<Heard, LinkFault>) -> bool
+    ensures is { heard.now ≡ Err StatusAhead → IsTrue result }
+    ensures only { IsTrue result → heard.now ≡ Err StatusAhead }
+{
+    match heard {
+        Err(LinkFault::StatusAhead) => true,
+        Ok(_) | Err(_) => false,
+    }
+}
+
 /// Whether a log that ends here has the start of the stream, if one was started.
 fn has_start(started: Option<StreamStart>, log_end: Lsn) -> bool
     ensures { IsTrue result → IsSentFrom started log_end }
@@ -111,13 +123,17 @@ fn hear_piece(ear: &mut Ear, piece: &[u8], book: &mut Book, sent: Lsn) -> Result
     }
 }
 
-/// The state of a connection after a piece was heard, which may have started its stream, and may have ended it.
+/// The state of a connection after a piece was heard, which may have started its stream, and may have ended it. The
+/// client of a stream that starts has been sent nothing.
 fn connection_after(
     old: ConnectionState,
     begins: bool,
     heard: &Result<Heard, LinkFault>,
 ) -> ConnectionState
-    ensures { result.sent ≤ old.sent }
+    ensures begins { begins ≡ true → result.sent ≡ 0 }
+    ensures goes_on { begins ≡ false → result.sent ≡ old.sent }
+    ensures stays { begins ≡ false → old.has_ended ≡ true → result.has_ended ≡ true }
+    ensures ahead { heard.now ≡ Err StatusAhead → result.has_ended ≡ true }
 {
     let (wants_reply, ends) = match heard {
         Ok(heard) => (0 < heard.replies, heard.ended.is_some()),
@@ -135,6 +151,30 @@ fn connection_after(
         wants_reply: old.wants_reply || wants_reply,
         has_ended: old.has_ended || ends,
     }
+}
+
+/// Sets the state of the connection of this stream, if there is one, after a piece was heard. Returns whether the
+/// connection of a stream that had started before had ended.
+fn note_heard(
+    connections: &mut [ConnectionState],
+    started: Option<StreamStart>,
+    was_started: bool,
+    heard: &Result<Heard, LinkFault>,
+) -> bool
+    ensures sent { AreSent (sent_started started was_started (sent_at connections.old)) connections.new }
+    ensures ended { HaveEnded (ended_started started was_started (ended_at connections.old)) connections.new }
+    ensures ahead { heard.now ≡ Err StatusAhead → (stream : _) → started ≡ Some stream
+        → ended_at connections.new stream.0 ≡ true }
+{
+    let Some(stream) = started else {
+        return false;
+    };
+    let Some(connection) = connections.get(stream.slot).copied() else {
+        return false;
+    };
+    let was_over = was_started && connection.has_ended;
+    connections[stream.slot] = connection_after(connection, !was_started, heard);
+    was_over
 }
 
 impl Listener {
@@ -230,14 +270,15 @@ impl Listener {
 
 impl StreamTask for Listener {
     ghost use Rattle.copy_both.specs.Ears.{ear_started};
-    ghost use Rattle.senders.specs.Listening.{AcquiresFor, HeardPiece, slot_of};
+    ghost use Rattle.senders.specs.Listening.{AcquiresFor, HeardPiece, NotesAhead};
 
     type Answer = Listened;
 
-    ghost slot = { λ listener. slot_of (ear_started listener.ear) };
+    ghost stream = { λ listener. ear_started listener.ear };
 
-    ghost did = { λ before after old new connections left number acquired listened.
-        HeardPiece before after old new connections listened.heard × AcquiresFor before after number acquired };
+    ghost did = { λ before after old new connections left number acquired confirmed listened.
+        HeardPiece before after old new connections listened.heard × AcquiresFor before after number acquired
+        × NotesAhead (ear_started after.ear) listened.heard confirmed };
 
     fn use_stream(
         &mut self,
@@ -250,14 +291,9 @@ impl StreamTask for Listener {
         let sent = sent_position(self.ear.stream(), connections);
         let heard = hear_piece(&mut self.ear, &self.piece[..self.filled], book, sent);
         let acquired = self.acquire(was_started, &confirmed, number);
-        let confirmed = confirmation(self.ear.stream(), &confirmed, book);
-        let mut was_over = false;
-        if let Some(stream) = self.ear.stream() {
-            if let Some(connection) = connections.get(stream.slot).copied() {
-                was_over = was_started && connection.has_ended;
-                connections[stream.slot] = connection_after(connection, !was_started, &heard);
-            }
-        }
+        let is_ahead = is_status_ahead(&heard);
+        let confirmed = confirmation(self.ear.stream(), &confirmed, book, is_ahead);
+        let was_over = note_heard(connections, self.ear.stream(), was_started, &heard);
         (Listened { heard, was_over }, acquired, confirmed)
     }
 }

@@ -1,9 +1,9 @@
 //! How connections are read and heard.
 
-ghost use Rattle.std.specs.Prelude.{◌≡◌, ◌<◌, None, Some, length};
+ghost use Rattle.std.specs.Prelude.{◌≡◌, ◌<◌, None, Some, false, length};
 ghost use Rattle.copy_both.specs.Ears.{ear_started};
 ghost use Rattle.senders.specs.Hearing.{HearsPiece};
-ghost use Rattle.senders.specs.Listening.{BeginsAs, HasItsSlot, HasPermit, HasStarted, HearsAll, HearsNext, PermitsStart, SaysOfPiece, next_after, piece_of};
+ghost use Rattle.senders.specs.Listening.{BeginsAs, HasEnded, HasItsSlot, HasPermit, HasStarted, HearsAll, HearsNext, PermitsStart, SaysOfPiece, next_after, piece_of};
 
 use crate::beginning::Beginning;
 use crate::listener::{Listened, Listener};
@@ -120,19 +120,22 @@ pub(crate) fn begin<P: Publishing, S: Source, R: Wait>(
     unreachable!()
 }
 
-/// Hears a connection whose stream has started to its end, and returns why it ended; `None` if its sender had ended it.
+/// Hears a connection whose stream has started to its end, and returns why it ended. If `stops`, it stops when it finds
+/// that its sender had ended the connection, and returns `None`.
 pub(crate) fn listen<P: Publishing, S: Source, R: Wait>(
     rt: &R,
     publisher: &Publisher<P>,
     viewer: &mut Viewer<P>,
     listener: &mut Listener,
     reader: &mut S,
+    stops: bool,
 ) -> Option<ListenerEnd>
     requires room { 0 < length listener.old.piece.items }
     requires mine { HasItsSlot viewer.old listener.old }
     requires started { HasStarted listener.old }
-    ensures { HearsAll P.checked viewer.old viewer.new (S.left reader.old) (S.left reader.new)
+    ensures hears { HearsAll P.checked viewer.old viewer.new (S.left reader.old) (S.left reader.new)
         (S.has_failed reader.new) (S.has_ended reader.new) listener.old listener.new result }
+    ensures ends { stops ≡ false → HasEnded result }
 {
     for _ in rt.forever() {
         let (next, permit) = hear_next(rt, publisher, viewer, listener, reader);
@@ -142,8 +145,11 @@ pub(crate) fn listen<P: Publishing, S: Source, R: Wait>(
         }
         match next {
             Next::Ends(why) => return Some(why),
-            Next::GoesOn(true) => return None,
-            Next::GoesOn(false) => {}
+            Next::GoesOn(was_over) => {
+                if was_over && stops {
+                    return None;
+                }
+            }
         }
     }
     unreachable!()

@@ -4,9 +4,9 @@ ghost use Rattle.std.specs.Prelude.{◌≡◌, ◌<◌, length, map, true};
 ghost use Rattle.std.specs.Arc.{arc_value};
 ghost use Rattle.copy_frames.specs.Contents.{copy_both_response};
 ghost use Rattle.publisher_desk.specs.Viewers.{new_viewer};
-ghost use Rattle.senders.specs.Listening.{HasItsSlot, HasStarted, HearsAll};
+ghost use Rattle.senders.specs.Listening.{HasEnded, HasItsSlot, HasStarted, HearsAll};
 ghost use Rattle.senders.specs.Sending.{IsQuiet, StopsAs, TakesLogged, started_telling};
-ghost use Rattle.senders.specs.declared.sender_end.SenderEnd.TheVariants.{WriteFault};
+ghost use Rattle.senders.specs.declared.sender_end.SenderEnd.TheVariants.{Finished, WriteFault};
 
 use crate::gate::Gate;
 use crate::listener::Listener;
@@ -95,7 +95,7 @@ fn hear<P: Publishing, S: Source, R: Wait>(
     ensures { HearsAll P.checked viewer.old viewer.new (S.left reader.old) (S.left reader.new)
         (S.has_failed reader.new) (S.has_ended reader.new) listener.old listener.new result }
 {
-    let why = listen(rt, publisher, viewer, listener, reader);
+    let why = listen(rt, publisher, viewer, listener, reader, true);
     if why.is_some() {
         end_connection(rt, publisher, slot);
     }
@@ -115,7 +115,7 @@ pub(crate) fn starts_threads<R: Threads>(rt: &R) -> bool {
 
 /// Sends and listens side by side, to the end of the connection. If no other thread can be started, it is heard when
 /// its sender has stopped. Returns what was sent, what the sender has then seen, and why the listener ended, if it did.
-pub(crate) fn run_both<
+fn run_both<
     P: Publishing + Sync,
     S: Source + Send,
     W: Sink + Send,
@@ -180,4 +180,55 @@ pub(crate) fn run_both<
         },
     );
     (sent, sender, why)
+}
+
+/// Sends and listens side by side, and if all commits were taken, hears the client out. Returns what `run_both` does.
+pub(crate) fn run_out<
+    P: Publishing + Sync,
+    S: Source + Send,
+    W: Sink + Send,
+    G: Gate + Sync,
+    R: Threads + Wait + Clock + Sync,
+>(
+    rt: &R,
+    publisher: &Publisher<P>,
+    viewer: &mut Viewer<P>,
+    started: StreamStart,
+    voice: &mut Voice,
+    listener: &mut Listener,
+    reader: &mut S,
+    writer: &mut W,
+    permit: &Permit,
+    gate: &G,
+) -> (Sent, Viewer<P>, Option<ListenerEnd>)
+    requires quiet { IsQuiet voice.old (started_telling P.checked started.0 started.1 copy_both_response) }
+    requires room { 0 < length listener.old.piece.items }
+    requires mine { HasItsSlot viewer.old listener.old }
+    requires started { HasStarted listener.old }
+    ensures sent { StopsAs result.0.stop (W.taken writer.old) (W.taken writer.new)
+        (map (λ commit. arc_value commit) result.0.taken.items) voice.new
+        (started_telling P.checked started.0 started.1 copy_both_response) }
+    ensures failed { result.0.stop ≡ WriteFault → W.has_failed writer.new ≡ true }
+    ensures refused { W.has_refused writer.new ≡ W.has_refused writer.old }
+    ensures heard { HearsAll P.checked viewer.old viewer.new (S.left reader.old) (S.left reader.new)
+        (S.has_failed reader.new) (S.has_ended reader.new) listener.old listener.new result.2 }
+    ensures out { result.0.stop ≡ Finished → HasEnded result.2 }
+    ensures logged { TakesLogged P.checked new_viewer result.1
+        (map (λ commit. arc_value commit) result.0.taken.items) }
+{
+    let (sent, sender, why) = run_both(
+        rt, publisher, viewer, started, voice, listener, reader, writer, permit, gate,
+    );
+    if let Some(why) = why {
+        return (sent, sender, Some(why));
+    }
+    match sent.stop {
+        SenderEnd::ConnectionEnded | SenderEnd::WriteFault | SenderEnd::OutOfMemory => {
+            (sent, sender, None)
+        }
+        SenderEnd::Finished => {
+            let why = listen(rt, publisher, viewer, listener, reader, false);
+            (sent, sender, why)
+        }
+    }
 }

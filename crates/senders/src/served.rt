@@ -10,7 +10,7 @@ use publisher_desk::{Closing, Publishing, Viewer};
 use std::alloc::Global;
 use std::marker::Model;
 use std::sync::Arc;
-use tables_log::{Commit, SlotNumber};
+use tables_log::{Commit, Lsn, SlotNumber};
 
 /// The result of a connection that was served. The commits that were taken for it are consecutive commits of its
 /// publisher's log from its start on, and it had the slot of its stream until it released it. Contracts see it as
@@ -18,6 +18,7 @@ use tables_log::{Commit, SlotNumber};
 #[derive(Drop)]
 pub struct Served<P: Publishing> {
     outcome: Outcome,
+    sent: Lsn,
     is_requested: bool,
     confirmed: u64,
     number: u64,
@@ -30,9 +31,9 @@ impl<P: Publishing> Model for Served<P> {
 
     ghost Value = { ServedOf };
 
-    ghost view = { λ s. served_of s.outcome s.is_requested s.confirmed s.number s.viewer };
+    ghost view = { λ s. served_of s.outcome s.sent s.is_requested s.confirmed s.number s.viewer };
 
-    ghost invariant = { λ s. IsWitnessed P.checked (served_of s.outcome s.is_requested s.confirmed s.number s.viewer) };
+    ghost invariant = { λ s. IsWitnessed P.checked (served_of s.outcome s.sent s.is_requested s.confirmed s.number s.viewer) };
 }
 
 impl<P: Publishing> Served<P> {
@@ -41,19 +42,22 @@ impl<P: Publishing> Served<P> {
     ghost use Rattle.publisher_desk.specs.Viewers.{IsSeenIn};
     ghost use Rattle.senders.specs.Results.{AcquiredApart, IsWitnessed, served_of};
 
-    /// The result of a connection that has released its slot, if it had one, with the number of its acquisition, or 0.
+    /// The result of a connection that has released its slot, if it had one. `sent` is the position up to which its
+    /// client had then been sent the log, and `number` that of its acquisition; both are 0 if it had none.
     pub(crate) fn new(
         outcome: Outcome,
+        sent: Lsn,
         is_requested: bool,
         confirmed: u64,
         number: u64,
         viewer: Viewer<P>,
     ) -> Served<P>
-        requires { IsWitnessed P.checked (served_of outcome is_requested confirmed number viewer) }
-        ensures { result ≡ served_of outcome is_requested confirmed number viewer }
+        requires { IsWitnessed P.checked (served_of outcome sent is_requested confirmed number viewer) }
+        ensures { result ≡ served_of outcome sent is_requested confirmed number viewer }
     {
         Served {
             outcome,
+            sent,
             is_requested,
             confirmed,
             number,
@@ -110,6 +114,14 @@ impl<P: Publishing> Served<P> {
         ensures { result ≡ self.now.confirmed }
     {
         self.confirmed
+    }
+
+    /// The position up to which its client was sent the log on its stream, in bytes of the log: the end of the last
+    /// commit of the steps that its sender was given. 0 if there was none.
+    pub fn sent(&self) -> u64
+        ensures { result ≡ self.now.sent }
+    {
+        self.sent.to_u64()
     }
 
     /// The number of the acquisition of its slot among all of its publisher, from 1; 0 if it started no stream.

@@ -23,7 +23,7 @@ use crate::listener_end::ListenerEnd;
 use crate::listening::begin;
 use crate::outcome::Outcome;
 use crate::refusing::{answer, cause_of, fault_of};
-use crate::running::{Sent, run_both, send, starts_threads};
+use crate::running::{Sent, run_out, send, starts_threads};
 use crate::sender_end::SenderEnd;
 use crate::served::Served;
 use crate::sink::Sink;
@@ -35,6 +35,7 @@ use std::alloc::Global;
 use std::sync::Wait;
 use std::thread::Threads;
 use std::time::Clock;
+use tables_log::Lsn;
 
 /// Why a connection ended, if its sender ended it.
 fn end_of(stop: SenderEnd) -> End
@@ -235,7 +236,7 @@ fn serve_started<
         let outcome = without_commits(publisher.allocator(), started, end, None);
         return (outcome, Viewer::new());
     }
-    let (sent, sender, why) = run_both(
+    let (sent, sender, why) = run_out(
         rt, publisher, viewer, started, &mut voice, listener, reader, writer, permit, gate,
     );
     let outcome = conclude(started, &mut voice, sent, why, writer, permit);
@@ -286,19 +287,24 @@ fn outcome_of<
     }
 }
 
-/// Releases the slot that the connection has, if it has one, and with it gives its permit back.
+/// Releases the slot that the connection has, if it has one, and with it gives its permit back. The connection has then
+/// seen what its sender has seen. Returns the position up to which its client was sent the log.
 fn release_if<P: Publishing, R: Wait>(
     rt: &R,
     publisher: &Publisher<P>,
     viewer: &mut Viewer<P>,
+    sender: &mut Viewer<P>,
     permit: Option<Permit>,
-)
+) -> Lsn
     requires { (number : ℕ) → permit ≡ Some number → Holds viewer.old.held number }
-    ensures { ReleasesIf permit viewer.old viewer.new }
+    ensures { ReleasesIf permit result viewer.old sender.old viewer.new }
 {
     match permit {
-        Some(permit) => publisher.release(rt, viewer, permit),
-        None => {}
+        Some(permit) => {
+            publisher.compare(rt, viewer, sender);
+            publisher.release(rt, viewer, permit)
+        }
+        None => Lsn::new(0),
     }
 }
 
@@ -328,7 +334,7 @@ pub fn serve<
     let alloc = publisher.allocator();
     let Ok(mut listener) = Listener::new(alloc, publisher.checked()) else {
         let outcome = unstarted(alloc, End::Link(LinkFault::OutOfMemory), None);
-        return Served::new(outcome, false, 0, 0, Viewer::new());
+        return Served::new(outcome, Lsn::new(0), false, 0, 0, Viewer::new());
     };
     let mut viewer = Viewer::new();
     let (outcome, mut sender, permit) = outcome_of(
@@ -340,11 +346,11 @@ pub fn serve<
         writer,
         gate,
     );
-    publisher.compare(rt, &mut viewer, &mut sender);
-    release_if(rt, publisher, &mut viewer, permit);
+    let sent = release_if(rt, publisher, &mut viewer, &mut sender, permit);
     viewer.is_accepted();
     Served::new(
         outcome,
+        sent,
         listener.is_requested(),
         listener.confirmed(),
         listener.number(),

@@ -18,8 +18,8 @@ returns-in_err-checked-clause-refused g c =
     c.count_all.ensures.closing c.book-book.ensures.stands in
     memory_refused g.P.Publishing.checked g.P.Publishing.limit g.P.Ledger.parts c.args.rest.now closing
     c.args.seats.items c.args.served.items c.book-book.result.now c.book-book.ensures.named c.book-book.ensures.limited
-    stands c.count_all.ensures.counted c.count_all.ensures.logged c.count_all.ensures.seen
-    c.from_residual.result c.from_residual.ensures.1
+    stands c.count_all.ensures.counted c.count_all.ensures.logged c.count_all.ensures.shown
+    c.count_all.ensures.seen c.from_residual.result c.from_residual.ensures.1
 
 pub returns-in_err-fresh-clause-refused : goal.returns-in_err-fresh-clause-refused
 returns-in_err-fresh-clause-refused g c =
@@ -28,8 +28,8 @@ returns-in_err-fresh-clause-refused g c =
     c.count_all.ensures.closing c.book-book.ensures.stands in
     memory_refused g.P.Publishing.checked g.P.Publishing.limit g.P.Ledger.parts c.args.rest.now closing
     c.args.seats.items c.args.served.items c.book-book.result.now c.book-book.ensures.named c.book-book.ensures.limited
-    stands c.count_all.ensures.counted c.count_all.ensures.logged c.count_all.ensures.seen
-    c.from_residual-in_err-fresh.result c.from_residual-in_err-fresh.ensures.1
+    stands c.count_all.ensures.counted c.count_all.ensures.logged c.count_all.ensures.shown
+    c.count_all.ensures.seen c.from_residual-in_err-fresh.result c.from_residual-in_err-fresh.ensures.1
 
 pub returns-in_err-compare-clause-refused : goal.returns-in_err-compare-clause-refused
 returns-in_err-compare-clause-refused g c =
@@ -50,13 +50,14 @@ returns-in_err-compare-clause-refused g c =
     c.from_residual-in_err-compare.result c.in_err-compare.field-0.0 (search rules)
     (refused_as_named g.P.Publishing.checked g.P.Publishing.limit g.P.Ledger.parts c.args.rest.now closing
     c.args.seats.items c.args.served.items c.book-book.result.now c.book-book.ensures.named c.book-book.ensures.limited
-    stands c.count_all.ensures.counted c.count_all.ensures.logged c.count_all.ensures.seen c.acquisitions.result
-    acquired_is slots_are c.as_slice.result.now c.as_slice-2.result.now c.in_err-compare.field-0.0 seats_are served_are
+    stands c.count_all.ensures.counted c.count_all.ensures.logged c.count_all.ensures.shown
+    c.count_all.ensures.seen c.acquisitions.result acquired_is slots_are c.as_slice.result.now c.as_slice-2.result.now
+    c.in_err-compare.field-0.0 seats_are served_are
     (c.in_err-compare.ensures.err closing
     (witnessed_as_named g.P.Publishing.checked closing c.acquisitions.result c.args.seats.items c.as_slice.result.now
     c.args.served.items c.as_slice-2.result.now c.book-book.result.now c.book-book.ensures.named stands acquired_is
-    seats_are served_are c.count_all.ensures.logged c.count_all.ensures.witnessed c.count_all.ensures.seen
-    turns known)))
+    seats_are served_are c.count_all.ensures.logged c.count_all.ensures.shown c.count_all.ensures.witnessed
+    c.count_all.ensures.seen turns known)))
 
 pub returns-clause-ok : goal.returns-clause-ok
 returns-clause-ok g c =
@@ -79,8 +80,8 @@ returns-clause-ok g c =
     (c.in_ok-compare.ensures.ok closing
     (witnessed_as_named g.P.Publishing.checked closing c.acquisitions.result c.args.seats.items c.as_slice.result.now
     c.args.served.items c.as_slice-2.result.now c.book-book.result.now c.book-book.ensures.named stands acquired_is
-    seats_are served_are c.count_all.ensures.logged c.count_all.ensures.witnessed c.count_all.ensures.seen
-    turns known)
+    seats_are served_are c.count_all.ensures.logged c.count_all.ensures.shown c.count_all.ensures.witnessed
+    c.count_all.ensures.seen turns known)
     slots_are c.keep_confirmed.new.fresh
     (subst (λ (slots : List Slot). IsConfirmedAs slots c.compare.new.fresh c.keep_confirmed.new.fresh) slots_are
     c.keep_confirmed.ensures))

@@ -28,15 +28,15 @@ returns-then-not-branch-clause-err g c closing told =
     c.in_ok-replay.ensures.ok c.in_ok-replay.ensures.all
     (MatchBool-at_false _ _ c.if-not-branch.true c.in_ok-replay.ensures.right)
 
-pub returns-then-not-are_whole-clause-err : goal.returns-then-not-are_whole-clause-err
-returns-then-not-are_whole-clause-err g c closing told =
+pub returns-then-not-are_complete-clause-err : goal.returns-then-not-are_complete-clause-err
+returns-then-not-are_complete-clause-err g c closing told =
     taken_compared c.args.book.now c.replay.new.fresh c.args.seats.now c.in_ok-receipts.receipts.items
     c.as_slice.result.now c.as_slice.ensures.value c.in_ok-receipts.ensures.ok c.in_ok-receipts.ensures.long
     c.in_ok-readings.readings.items c.sort_readings.new.readings.items c.as_slice-2.result.now
     c.in_ok-readings.ensures c.sort_readings.ensures.all c.as_slice-2.ensures.value
     c.in_ok-replay.ensures.ok c.in_ok-replay.ensures.all
     (MatchBool-at_true _ _ c.if-not-branch.false c.in_ok-replay.ensures.right) c.args.acquired c.args.served.now
-    c.if-not-are_whole.ensures
+    c.if-not-are_complete.ensures
 
 pub returns-clause-err : goal.returns-clause-err
 returns-clause-err g c closing told =
@@ -46,7 +46,7 @@ returns-clause-err g c closing told =
     c.in_ok-readings.ensures c.sort_readings.ensures.all c.as_slice-2.ensures.value
     c.in_ok-replay.ensures.ok c.in_ok-replay.ensures.all
     (MatchBool-at_true _ _ c.if-not-branch.false c.in_ok-replay.ensures.right) c.args.acquired c.args.served.now
-    c.args.slots c.requires.slots c.if-not-are_whole.ensures closing told
+    c.args.slots c.requires.slots c.if-not-are_complete.ensures closing told
     c.check_starts.result c.check_starts.ensures.err
 
 pub returns-clause-ok : goal.returns-clause-ok
@@ -57,6 +57,6 @@ returns-clause-ok g c closing told slots_are =
     c.in_ok-readings.ensures c.sort_readings.ensures.all c.as_slice-2.ensures.value
     c.in_ok-replay.ensures.ok c.in_ok-replay.ensures.all
     (MatchBool-at_true _ _ c.if-not-branch.false c.in_ok-replay.ensures.right) c.args.acquired c.args.served.now
-    c.args.slots c.requires.slots c.if-not-are_whole.ensures closing told
+    c.args.slots c.requires.slots c.if-not-are_complete.ensures closing told
     c.check_starts.result c.check_starts.ensures.ok slots_are
     c.in_ok-receipts.ensures.forward c.in_ok-receipts.ensures.timed

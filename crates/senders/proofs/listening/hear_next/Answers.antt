@@ -24,6 +24,7 @@ returns-clause-hears g c =
     (hears_next g.P.Publishing.checked c.args.viewer.now c.hear_piece-permit.new.viewer (left c.args.reader.now) (left c.pull.new.reader) failed ended
     c.args.listener.now c.pull.new.self c.hear_piece-permit.new.listener pulls
     c.hear_piece-permit.ensures.room c.hear_piece-permit.result.0.heard c.hear_piece-permit.ensures.says
+    c.hear_piece-permit.result.1 c.hear_piece-permit.ensures.permit
     c.hear_piece-permit.result.0.was_over c.hear_piece-permit.result.0.heard refl c.hear_piece-permit.ensures.hears)
 
 pub returns-in-Err-clause-hears : goal.returns-in-Err-clause-hears

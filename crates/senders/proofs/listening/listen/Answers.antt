@@ -9,8 +9,8 @@ loop-init g c = (
   c.requires.started,
 )
 
-pub returns-in-Ends : goal.returns-in-Ends
-returns-in-Ends g c =
+pub returns-in-Ends-clause-hears : goal.returns-in-Ends-clause-hears
+returns-in-Ends-clause-hears g c =
     let left = g.S.Source.left in
     let next = c.hear_next-next in
     last_after g.P.Publishing.checked c.args.viewer.now c.loop.viewer next.new.viewer (left c.args.reader.now) (left c.loop.reader) (left next.new.reader)
@@ -18,14 +18,14 @@ returns-in-Ends g c =
     c.args.listener.now c.loop.listener next.new.listener c.loop.invariant.0 next.result.0 next.ensures.hears c.in-Ends.why
     c.in-Ends.is
 
-pub returns-in-GoesOn-true : goal.returns-in-GoesOn-true
-returns-in-GoesOn-true g c =
+pub returns-then-stops-clause-hears : goal.returns-then-stops-clause-hears
+returns-then-stops-clause-hears g c =
     let left = g.S.Source.left in
     let next = c.hear_next-next in
     on_after g.P.Publishing.checked c.args.viewer.now c.loop.viewer next.new.viewer (left c.args.reader.now) (left c.loop.reader) (left next.new.reader)
     (g.S.Source.has_failed next.new.reader) (g.S.Source.has_ended next.new.reader)
     c.args.listener.now c.loop.listener next.new.listener c.loop.invariant.0 next.result.0 next.ensures.hears
-    c.in-GoesOn-true.field-0 c.in-GoesOn-true.is
+    c.in-GoesOn.was_over c.in-GoesOn.is
 
 pub loop-preserved : goal.loop-preserved
 loop-preserved g c =
@@ -35,7 +35,7 @@ loop-preserved g c =
       on_after g.P.Publishing.checked c.args.viewer.now c.loop.viewer next.new.viewer (left c.args.reader.now) (left c.loop.reader) (left next.new.reader)
           (g.S.Source.has_failed next.new.reader) (g.S.Source.has_ended next.new.reader)
           c.args.listener.now c.loop.listener next.new.listener c.loop.invariant.0 next.result.0 next.ensures.hears
-          c.in-GoesOn-false.field-0 c.in-GoesOn-false.is,
+          c.in-GoesOn.was_over c.in-GoesOn.is,
       record {
         stream = was.stream;
         started_is = (kept_by (ear_started c.loop.listener.ear) (ear_started next.new.listener.ear) next.result.1

@@ -39,7 +39,8 @@ returns-clause-streams g c =
     (taken c.open.new.writer) (taken c.send-sent.new.writer) (taken c.conclude-outcome.new.writer)
     c.send-sent.new.voice c.in-Ok.voice (Some c.args.why) (g.W.Sink.has_failed c.send-sent.new.writer)
     (g.W.Sink.has_failed c.conclude-outcome.new.writer) c.conclude-outcome.result c.send-sent.result.0 c.in-Ok.ensures.ok
-    c.send-sent.ensures.sent c.send-sent.ensures.failed c.conclude-outcome.ensures.concludes
+    c.send-sent.ensures.sent c.send-sent.ensures.failed (λ finished. (c.args.why, refl))
+    c.conclude-outcome.ensures.concludes
 
 pub returns-in-Err-clause-logged : goal.returns-in-Err-clause-logged
 returns-in-Err-clause-logged g c =

@@ -40,7 +40,7 @@ returns-then-not-starts_threads-clause-runs g c = record {
 pub conclude-outcome-requires : goal.conclude-outcome-requires
 conclude-outcome-requires g c =
     let taken = g.W.Sink.taken in
-    let both = c.run_both-sent in
+    let both = c.run_out-sent in
     rests both.result.0.stop (taken c.open.new.writer) (taken both.new.writer)
     (map (λ commit. arc_value commit) both.result.0.taken.items) both.new.voice
     (started_telling g.P.Publishing.checked c.args.started.0 c.args.started.1 copy_both_response)
@@ -49,7 +49,7 @@ conclude-outcome-requires g c =
 pub returns-clause-runs : goal.returns-clause-runs
 returns-clause-runs g c =
     let taken = g.W.Sink.taken in
-    let both = c.run_both-sent in
+    let both = c.run_out-sent in
     record {
       why = both.result.2;
       hears = both.ensures.heard;
@@ -57,8 +57,7 @@ returns-clause-runs g c =
           (taken c.open.new.writer) (taken both.new.writer) (taken c.conclude-outcome.new.writer)
           both.new.voice c.in-Ok.voice both.result.2 (g.W.Sink.has_failed both.new.writer)
           (g.W.Sink.has_failed c.conclude-outcome.new.writer) c.conclude-outcome.result both.result.0 c.in-Ok.ensures.ok
-          both.ensures.sent
-          both.ensures.failed c.conclude-outcome.ensures.concludes;
+          both.ensures.sent both.ensures.failed both.ensures.out c.conclude-outcome.ensures.concludes;
     }
 
 pub returns-in-Err-clause-logged : goal.returns-in-Err-clause-logged
@@ -76,4 +75,4 @@ returns-then-not-starts_threads-clause-logged g c =
     (ap (map (λ commit. arc_value commit)) c.without_commits-outcome-then-not-starts_threads.ensures.none))
 
 pub returns-clause-logged : goal.returns-clause-logged
-returns-clause-logged g c = rw c.conclude-outcome.ensures.concludes.taken_is c.run_both-sent.ensures.logged
+returns-clause-logged g c = rw c.conclude-outcome.ensures.concludes.taken_is c.run_out-sent.ensures.logged

@@ -1,7 +1,0 @@
-use Rattle.std.proofs.Common.{All, take}
-use Rattle.tables_log.specs.BookView.{book_log}
-use Rattle.senders.specs.TakenCommits.{IsWhole}
-use Rattle.senders.proofs.taken.are_whole.Given as goal
-
-abbrev pub invariant-loop-one : goal.invariant-loop-one
-invariant-loop-one g l = All (IsWhole (book_log l.book)) (take l.one-index l.served)
