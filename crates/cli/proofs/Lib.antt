@@ -12,6 +12,8 @@ pub mod LineLemmas
 pub mod Published
 pub mod RequestLemmas
 pub mod Rules
+pub mod EndedLemmas
+pub mod SentLemmas
 pub mod Serving
 pub mod Sessions
 pub mod SlotLemmas

@@ -7,8 +7,7 @@ use Rattle.pub_reader.specs.StepView.{step_view}
 use Rattle.pub_reader.specs.Steps.{StepOf, Commit, View}
 use Rattle.pub_reader.specs.declared.step.Step.{Step}
 use Rattle.pub_reader.specs.declared.step.Step.TheVariants as s
-use Rattle.publisher_desk.specs.Seats.{SeatOf}
-use Rattle.publisher_desk.specs.Sights.{StartsWith}
+use Rattle.publisher_desk.specs.Seats.{SeatOf, SeesOn}
 use Rattle.shard_checker.specs.CheckedView.{CheckedOf}
 use Rattle.shard_world.specs.declared.answer.Answer.{Answer}
 use Rattle.table_changes.specs.Commands.{Command}
@@ -80,7 +79,7 @@ module _ (checked : CheckedOf) (limit : ℕ) where
       })
 
   pub viewed : (step : StepOf) (had has : SeatOf) (text : List ℕ) → step ≡ View
-      → has.notes ≡ had.notes → StartsWith has.seen had.seen → IsViewText checked has text
+      → has.notes ≡ had.notes → SeesOn had has → IsViewText checked has text
       → Tells checked limit step had has text
   viewed step had has text e same begins is =
       subst (λ (s : StepOf). Tells checked limit s had has text) (sym e) (record {

@@ -10,8 +10,7 @@ use Rattle.publisher_desk.specs.Answers.{IsMade}
 use Rattle.publisher_desk.specs.Logged.{IsRefused}
 use Rattle.publisher_desk.specs.Receipts.{ReceiptOf, receipt_of}
 use Rattle.publisher_desk.specs.Refusals.{HasFault}
-use Rattle.publisher_desk.specs.Seats.{SeatOf}
-use Rattle.publisher_desk.specs.Sights.{StartsWith}
+use Rattle.publisher_desk.specs.Seats.{SeatOf, SeesOn}
 use Rattle.publisher_desk.specs.declared.note.Note.{Note}
 use Rattle.publisher_desk.specs.declared.note.Note.TheVariants.{Committed, Looked}
 use Rattle.senders.specs.Gathering.{receipts_in}
@@ -59,7 +58,7 @@ module _ (checked : CheckedOf) (limit : ℕ) where
       → IfOk result (λ number. has.notes ≡ had.notes ++ Committed (receipt_of number commands time) ∷ [])
       → IfOk result (IsMade checked limit had.seen has.seen commands time) → IfErr result (IsRefused checked limit has commands)
       → IfErr result (HasFault (setting_in checked) commands) → OnErr result (has.notes ≡ had.notes)
-      → StartsWith has.seen had.seen → TakesUp checked limit time commands had has
+      → SeesOn had has → TakesUp checked limit time commands had has
   takes_up time commands had has (Ok number) known last made refused fault same begins =
       (inl (record { number = number; made = made; last = last }), begins)
   takes_up time commands had has (Err error) known last made refused fault same begins =

@@ -9,8 +9,7 @@ use Rattle.publisher_desk.specs.Answers.{IsMade}
 use Rattle.publisher_desk.specs.Logged.{IsRefused}
 use Rattle.publisher_desk.specs.Receipts.{receipt_of}
 use Rattle.publisher_desk.specs.Refusals.{HasFault}
-use Rattle.publisher_desk.specs.Seats.{SeatOf}
-use Rattle.publisher_desk.specs.Sights.{StartsWith}
+use Rattle.publisher_desk.specs.Seats.{SeatOf, SeesOn}
 use Rattle.publisher_desk.specs.declared.note.Note.TheVariants.{Committed}
 
 -- A commit of the list is refused after the log that the session has then seen, and memory is not the reason.
@@ -27,11 +26,12 @@ pub record IsMadeLast (checked : CheckedOf) (limit time : ℕ) (commands : List 
     pub made : IsMade checked limit had.seen has.seen commands time number
     pub last : has.notes ≡ had.notes ++ Committed (receipt_of number commands time) ∷ []
 
--- It was made a transaction, or skipped. What the session had seen is a beginning of what it has then seen.
+-- It was made a transaction, or skipped. What the session had seen of the log and of the slots is a beginning of what
+-- it has then seen.
 abbrev pub TakesUp : CheckedOf → ℕ → ℕ → List Command → SeatOf → SeatOf → Type 0
 TakesUp checked limit time commands had has =
     (IsMadeLast checked limit time commands had has
-    ⊎ (IsPassedOver checked limit commands has × (has.notes ≡ had.notes))) × StartsWith has.seen had.seen
+    ⊎ (IsPassedOver checked limit commands has × (has.notes ≡ had.notes))) × SeesOn had has
 
 -- So were these lists, in order: the first at this time, and each further one at the next.
 abbrev pub AreCommitted : CheckedOf → ℕ → ℕ → List (List Command) → SeatOf → SeatOf → Type 0

@@ -15,8 +15,7 @@ use Rattle.publisher_desk.specs.Answers.{IsMade}
 use Rattle.publisher_desk.specs.Logged.{IsRefused}
 use Rattle.publisher_desk.specs.Receipts.{receipt_of}
 use Rattle.publisher_desk.specs.Refusals.{HasFault}
-use Rattle.publisher_desk.specs.Seats.{SeatOf}
-use Rattle.publisher_desk.specs.Sights.{StartsWith}
+use Rattle.publisher_desk.specs.Seats.{SeatOf, SeesOn}
 use Rattle.publisher_desk.specs.declared.note.Note.TheVariants as n
 use Rattle.commands.specs.Failures.{fault_line}
 use Rattle.cli.specs.Lines.{AreLast, IsPlain, ReadsLine, ReadsSome}
@@ -68,14 +67,14 @@ module _ (checked : CheckedOf) (limit : ℕ) where
         → HasFault (setting_in checked) commands error → has.notes ≡ had.notes
         → IsTalkAnswered had commands has (a.Refused error)
 
-  -- A step is answered with these lines. VIEW shows the log that the session has then seen.
+  -- A step is answered with these lines. VIEW shows the log, and the events of slots, that the session has then seen.
   pub data IsStepAnswered (had has : SeatOf) : StepOf → List (List ℕ) → Type 0 where
     Committing : (commands : List Command) (answer : Answer) → IsTalkAnswered had commands has answer
         → IsStepAnswered had has (Commit commands) (answer_line answer ∷ [])
     Viewing : (lines : List (List ℕ)) → IsView checked has lines → has.notes ≡ had.notes
         → IsStepAnswered had has View lines
 
-  -- A line is answered with these lines. A step may show the session more of the log.
+  -- A line is answered with these lines. A step may show the session more of the log and of the slots.
   pub data IsLineAnswer (had : SeatOf) (line : List ℕ) : List (List ℕ) → SeatOf → Type 0 where
     NoText : (IsUtf8 line → ⊥) → IsLineAnswer had line (fault_line i.Unread ∷ []) had
     NoScript : (error : ReadError) → TellsScript (script_by checked.catalog.tables line) error
@@ -86,7 +85,7 @@ module _ (checked : CheckedOf) (limit : ℕ) where
     Empty : script_by checked.catalog.tables line ≡ Ok [] → IsLineAnswer had line [] had
     OneStep : (step : LineOf) (lines : List (List ℕ)) (has : SeatOf)
         → script_by checked.catalog.tables line ≡ Ok (step ∷ []) → IsStepAnswered had has step.step lines
-        → StartsWith has.seen had.seen → IsLineAnswer had line lines has
+        → SeesOn had has → IsLineAnswer had line lines has
 
   -- Lines other than `QUIT;` are answered one after another.
   pub data AreAnswered (had : SeatOf) : List (List ℕ) → List (List ℕ) → SeatOf → Type 0 where
@@ -114,14 +113,14 @@ module _ (checked : CheckedOf) (limit : ℕ) where
   -- commands are answered so
   pub record Replies (commands : List Command) (had has : SeatOf) (answer : Answer) : Type 0 where
     pub is : IsTalkAnswered had commands has answer
-    pub begins : StartsWith has.seen had.seen
+    pub begins : SeesOn had has
 
   -- a step is answered by a text
   pub record Tells (step : StepOf) (had has : SeatOf) (text : List ℕ) : Type 0 where
     pub lines : List (List ℕ)
     pub is : IsStepAnswered had has step lines
     pub text_is : text ≡ text_of lines
-    pub begins : StartsWith has.seen had.seen
+    pub begins : SeesOn had has
 
   -- a line is answered by a text
   pub record Answers (line : List ℕ) (had has : SeatOf) (text : List ℕ) : Type 0 where

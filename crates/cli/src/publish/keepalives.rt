@@ -1,7 +1,7 @@
 //! Keepalives, which tell clients that the publisher is still there.
 
-ghost use Rattle.std.specs.Prelude.{ℕ};
-ghost use Rattle.publisher_desk.specs.Held.{AreSentUpTo};
+ghost use Rattle.std.specs.Prelude.{None};
+ghost use Rattle.publisher_desk.specs.SlotEvents.{KeepsEnded, KeepsSent};
 
 use crate::publish::hall::Hall;
 use publisher_desk::{ConnectionState, SlotTask};
@@ -23,7 +23,8 @@ struct Reminding;
 
 /// Requests a keepalive for the client of a slot, unless its stream has ended.
 fn remind(connections: &mut [ConnectionState], slot: SlotNumber)
-    ensures { (most : ℕ) → AreSentUpTo most connections.old → AreSentUpTo most connections.new }
+    ensures sent { KeepsSent None connections.old connections.new }
+    ensures ended { KeepsEnded None None connections.old connections.new }
 {
     let Some(connection) = connections.get(slot).copied() else {
         return;
@@ -40,7 +41,8 @@ fn remind(connections: &mut [ConnectionState], slot: SlotNumber)
 
 /// Requests a keepalive for the client of each slot whose stream has not ended.
 fn remind_all(connections: &mut [ConnectionState])
-    ensures { (most : ℕ) → AreSentUpTo most connections.old → AreSentUpTo most connections.new }
+    ensures sent { KeepsSent None connections.old connections.new }
+    ensures ended { KeepsEnded None None connections.old connections.new }
 {
     for slot in 0..connections.len() {
         remind(connections, slot);

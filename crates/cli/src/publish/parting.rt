@@ -1,7 +1,7 @@
 //! How the publisher ends: clients are sent what is left, and have some time to confirm it.
 
-ghost use Rattle.std.specs.Prelude.{ℕ};
-ghost use Rattle.publisher_desk.specs.Held.{AreSentUpTo};
+ghost use Rattle.std.specs.Prelude.{None};
+ghost use Rattle.publisher_desk.specs.SlotEvents.{KeepsEnded, KeepsSent};
 
 use crate::publish::hall::Hall;
 use publisher_desk::{ConnectionState, SlotTask};
@@ -24,7 +24,8 @@ struct Asking;
 /// Whether the client of a slot is connected, was sent something since its stream started, and has not confirmed the
 /// whole log. If so, requests a keepalive for it.
 fn ask(connections: &mut [ConnectionState], slot: SlotNumber, confirmed: Lsn, end: Lsn) -> bool
-    ensures { (most : ℕ) → AreSentUpTo most connections.old → AreSentUpTo most connections.new }
+    ensures sent { KeepsSent None connections.old connections.new }
+    ensures ended { KeepsEnded None None connections.old connections.new }
 {
     let Some(connection) = connections.get(slot).copied() else {
         return false;

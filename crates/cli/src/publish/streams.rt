@@ -47,6 +47,8 @@ pub(crate) struct PatientRead<'a, R> {
     accepted: Option<Instant>,
     /// For how many ticks the client has been silent.
     silent: u64,
+    /// Whether the next read fails if the client is then still to be disconnected.
+    is_last: bool,
 }
 
 impl<'a, R: Clock> PatientRead<'a, R> {
@@ -65,6 +67,7 @@ impl<'a, R: Clock> PatientRead<'a, R> {
             writes,
             accepted: Instant::now(rt).ok(),
             silent: 0,
+            is_last: false,
         }
     }
 
@@ -106,7 +109,12 @@ impl<'a, R: Clock> PatientRead<'a, R> {
 }
 
 impl<R: Clock> Read for PatientRead<'_, R> {
+    /// Bytes that were read are returned, also if the client is then to be disconnected: the next read fails, unless
+    /// they started its stream.
     fn read(&mut self, buffer: &mut [u8]) -> io::Result<usize> {
+        if self.is_last && self.is_over(false) {
+            return Err(io::Error::from(ErrorKind::TimedOut));
+        }
         for _ in 0..u64::MAX {
             let mut stream = self.stream;
             match stream.read(buffer) {
@@ -117,9 +125,7 @@ impl<R: Clock> Read for PatientRead<'_, R> {
                 }
                 Err(error) => return Err(error),
                 Ok(count) => {
-                    if 0 < count && self.is_over(false) {
-                        return Err(io::Error::from(ErrorKind::TimedOut));
-                    }
+                    self.is_last = 0 < count && self.is_over(false);
                     return Ok(count);
                 }
             }

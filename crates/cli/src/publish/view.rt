@@ -1,4 +1,4 @@
-//! What VIEW shows: the publisher's rows, and the progress of each subscriber.
+//! What VIEW shows: the publisher's rows, and how far each subscriber is.
 
 ghost use Rattle.std.specs.Prelude.{◌≡◌, ◌++◌, length, IfOk, OnOk};
 ghost use Rattle.std.specs.String.{string_bytes};
@@ -6,12 +6,11 @@ ghost use Rattle.pub_catalog.specs.CatalogView.{catalog_view};
 ghost use Rattle.commands.specs.Output.{ended, text_of};
 ghost use Rattle.shard_world.specs.ViewContents.{AllAt, FoundIn};
 ghost use Rattle.tables_log.specs.BookView.{book_slots};
-ghost use Rattle.tables_log.specs.Committing.{ChangesSlots};
-ghost use Rattle.tables_log.specs.Slots.{KeepsUse};
-ghost use Rattle.publisher_desk.specs.SlotEvents.{KeepsConfirmed};
-ghost use Rattle.publisher_desk.specs.Sights.{StartsWith};
+ghost use Rattle.tables_log.specs.Committing.{IsKept};
+ghost use Rattle.publisher_desk.specs.Seats.{SeesOn};
+ghost use Rattle.publisher_desk.specs.SlotEvents.{sent_at};
 ghost use Rattle.cli.specs.Views as spec;
-ghost use Rattle.cli.specs.Views.{IsViewText, progress_lines};
+ghost use Rattle.cli.specs.Views.{IsViewText, progress_lines, progress_seen, taken_at};
 
 use commands::{push_position, push_tables, subscriber_name};
 use filter_tree::Row;
@@ -47,26 +46,46 @@ struct Viewing {
     subscriptions: usize,
 }
 
+/// Whether a start is refused because a stream has the slot.
+fn is_in_use(error: StartError) -> bool
+    ensures { result ≡ spec.is_in_use error }
+{
+    matches!(error, StartError::InUse)
+}
+
 /// Whether a stream has the slot. To find out, one is started; if none had it, the slot is released again.
 fn is_taken(book: &mut Book, slot: SlotNumber) -> bool
-    ensures slots { ChangesSlots book.old book.new (book_slots book.new) }
-    ensures uses { KeepsUse (book_slots book.old) (book_slots book.new) }
-    ensures confirmed { KeepsConfirmed (book_slots book.old) (book_slots book.new) }
+    ensures kept { IsKept book.old book.new }
+    ensures taken { result ≡ taken_at (book_slots book.old) slot }
 {
     match book.start(slot, 0) {
         Ok(_) => {
             book.release(slot);
             false
         }
-        Err(error) => error == StartError::InUse,
+        Err(error) => is_in_use(error),
     }
 }
 
 /// The position up to which the client of a slot was sent the log; 0 if there is no such slot.
-fn sent_to(connections: &[ConnectionState], slot: SlotNumber) -> Lsn {
+fn sent_to(connections: &[ConnectionState], slot: SlotNumber) -> Lsn
+    ensures { result ≡ sent_at connections.now slot }
+{
     match connections.get(slot) {
         Some(connection) => connection.sent,
         None => Lsn::new(0),
+    }
+}
+
+/// The progress of the subscriber whose slot this is.
+fn progress_of(book: &mut Book, connections: &[ConnectionState], slot: SlotNumber) -> Progress
+    ensures kept { IsKept book.old book.new }
+    ensures shows { result ≡ progress_seen (book_slots book.old) connections.now slot }
+{
+    Progress {
+        confirmed: Lsn::new(book.confirmed(slot)),
+        sent: sent_to(connections, slot),
+        is_connected: is_taken(book, slot),
     }
 }
 
@@ -77,19 +96,14 @@ fn progress_in(
     connections: &[ConnectionState],
     subscriptions: usize,
 ) -> Result<Vec<Progress>, AllocError>
-    ensures slots { ChangesSlots book.old book.new (book_slots book.new) }
-    ensures uses { KeepsUse (book_slots book.old) (book_slots book.new) }
-    ensures confirmed { KeepsConfirmed (book_slots book.old) (book_slots book.new) }
+    ensures kept { IsKept book.old book.new }
     ensures count { IfOk result (λ progress. length progress.items ≡ subscriptions) }
+    ensures each { IfOk result (λ progress.
+        AllAt (λ slot one. one ≡ progress_seen (book_slots book.old) connections.now slot) progress.items) }
 {
     let mut progress = Vec::new(alloc);
     for slot in 0..subscriptions {
-        let is_connected = is_taken(book, slot);
-        progress.push(Progress {
-            confirmed: Lsn::new(book.confirmed(slot)),
-            sent: sent_to(connections, slot),
-            is_connected,
-        })?;
+        progress.push(progress_of(book, connections, slot))?;
     }
     Ok(progress)
 }
@@ -114,7 +128,7 @@ impl SlotTask for Viewing {
     type Answer = Result<View, AllocError>;
 
     ghost did = { λ before after old new connections left answer.
-        IfOk answer (IsSeen old before.tables before.subscriptions) };
+        IfOk answer (IsSeen old connections before.tables before.subscriptions) };
 
     fn use_slots(
         &mut self,
@@ -191,8 +205,8 @@ fn shown_text(alloc: Global, catalog: &Catalog, view: &View) -> Result<String, A
     Ok(text)
 }
 
-/// The lines that show the publisher: the log's length, its rows, and the progress of each subscriber. The log has all
-/// commits of the session's seat.
+/// The lines that show the publisher: the log's length, its rows, and the progress of each subscriber, by the log and
+/// the events of slots that the session's seat has then seen. The log has all commits of the seat.
 pub(crate) fn view_text<P: Publishing, R: Wait>(
     rt: &R,
     alloc: Global,
@@ -201,7 +215,7 @@ pub(crate) fn view_text<P: Publishing, R: Wait>(
 ) -> Result<String, AllocError>
     ensures text { IfOk result (λ text. IsViewText P.checked seat.new (string_bytes text)) }
     ensures same { seat.new.notes ≡ seat.old.notes }
-    ensures begins { StartsWith seat.new.seen seat.old.seen }
+    ensures begins { SeesOn seat.old seat.new }
 {
     let catalog = publisher.checked().catalog();
     let mut viewing = Viewing {

@@ -1,7 +1,8 @@
-use Rattle.std.specs.Prelude.{ℕ}
-use Rattle.publisher_desk.specs.Held.{AreSentUpTo}
+use Rattle.std.specs.Prelude.{None}
+use Rattle.publisher_desk.specs.SlotEvents.{KeepsEnded, KeepsSent}
 use Rattle.cli.proofs.publish.keepalives.remind_all.Given as goal
 
--- no client is noted as sent more than at the begin
+-- each client was sent what it was sent at the begin, and each connection that had ended still has
 abbrev pub invariant-loop-slot : goal.invariant-loop-slot
-invariant-loop-slot l = (most : ℕ) → AreSentUpTo most l.initial.connections → AreSentUpTo most l.connections
+invariant-loop-slot l = KeepsSent None l.initial.connections l.connections
+    × KeepsEnded None None l.initial.connections l.connections

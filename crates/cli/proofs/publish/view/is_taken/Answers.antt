@@ -1,25 +1,18 @@
-use Rattle.std.proofs.Common.{refl}
-use Rattle.cli.proofs.SlotLemmas.{book_looked, kept_confirmed, kept_uses, looked_confirmed, then_changes, to_its_own}
+use Rattle.std.proofs.Common.{sym, ◌∙◌}
+use Rattle.std.specs.Prelude.{slice_get}
+use Rattle.tables_log.specs.BookView.{book_slots}
+use Rattle.cli.proofs.SlotLemmas.{book_looked, refused_taken, untaken}
 use Rattle.cli.proofs.publish.view.is_taken.Goals as goal
 
-pub returns-in-Ok-clause-slots : goal.returns-in-Ok-clause-slots
-returns-in-Ok-clause-slots c =
-    then_changes c.args.book.now c.start.new.self c.release.new.self _ _ c.in-Ok.ensures.ok c.release.ensures
-
-pub returns-in-Ok-clause-uses : goal.returns-in-Ok-clause-uses
-returns-in-Ok-clause-uses c =
+pub returns-in-Ok-clause-kept : goal.returns-in-Ok-clause-kept
+returns-in-Ok-clause-kept c =
     book_looked c.args.book.now c.start.new.self c.release.new.self _ c.args.slot 0 c.in-Ok.ensures.accepted
     c.in-Ok.ensures.ok c.release.ensures
 
-pub returns-in-Err-clause-slots : goal.returns-in-Err-clause-slots
-returns-in-Err-clause-slots c = to_its_own c.args.book.now c.start.new.self _ c.in-Err.ensures.err
+pub returns-in-Ok-clause-taken : goal.returns-in-Ok-clause-taken
+returns-in-Ok-clause-taken c = sym (untaken (book_slots c.args.book.now) _ c.args.slot 0 c.in-Ok.ensures.accepted)
 
-pub returns-in-Err-clause-uses : goal.returns-in-Err-clause-uses
-returns-in-Err-clause-uses c = kept_uses c.args.book.now c.start.new.self _ c.in-Err.ensures.err refl
-
-pub returns-in-Ok-clause-confirmed : goal.returns-in-Ok-clause-confirmed
-returns-in-Ok-clause-confirmed c =
-    looked_confirmed c.args.book.now c.start.new.self c.release.new.self c.args.slot c.in-Ok.ensures.ok c.release.ensures
-
-pub returns-in-Err-clause-confirmed : goal.returns-in-Err-clause-confirmed
-returns-in-Err-clause-confirmed c = kept_confirmed c.args.book.now c.start.new.self c.in-Err.ensures.err
+pub returns-in-Err-clause-taken : goal.returns-in-Err-clause-taken
+returns-in-Err-clause-taken c =
+    c.is_in_use.ensures
+    ∙ sym (refused_taken (slice_get (book_slots c.args.book.now) c.args.slot) _ c.in-Err.error c.in-Err.ensures.refused)

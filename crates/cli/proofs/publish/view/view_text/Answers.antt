@@ -26,7 +26,7 @@ returns-clause-text g c =
     (λ text is. record {
       lines = view_lines checked.catalog view;
       view = shows checked lent.old lent.transactions lent.named lent.stands c.with_slots_for.new.seat
-          lends.log_is lends.noted c.len.result c.len-2.result view tables slots seen;
+          lends.log_is lends.noted lent.connections c.len.result c.len-2.result view tables slots lends.slots seen;
       is = is ∙ ap (λ (its : CatalogOf Expr). text_of (view_lines its view)) same;
     })
     c.shown_text.ensures

@@ -1,9 +1,8 @@
-use Rattle.std.specs.Prelude.{length}
-use Rattle.tables_log.specs.BookView.{book_log}
-use Rattle.tables_log.specs.Lsn.{end_lsn_of}
-use Rattle.publisher_desk.specs.Held.{AreSentUpTo}
+use Rattle.std.specs.Prelude.{None}
+use Rattle.publisher_desk.specs.SlotEvents.{KeepsEnded, KeepsSent}
 use Rattle.cli.proofs.publish.parting.AskingSlotTask.use_slots.Given as goal
 
--- no client was sent the log past its end
+-- each client was sent what it was sent at the begin, and each connection that had ended still has
 abbrev pub invariant-loop-slot : goal.invariant-loop-slot
-invariant-loop-slot l = AreSentUpTo (end_lsn_of (length (book_log l.book))) l.connections
+invariant-loop-slot l = KeepsSent None l.initial.connections l.connections
+    × KeepsEnded None None l.initial.connections l.connections
