@@ -203,7 +203,7 @@ SERVED = Theorem("served", [
     clauses("senders", "serving.rt", "serve"),
     clauses("senders", "connection.rt", "run_all"),
     MADE,
-], most=2200, tokens={
+], most=2250, tokens={
     "frames_in": "the `whole_frames` of bytes, with the limit 65,536",
     **FRAMES,
     **BOOKS,
@@ -220,9 +220,10 @@ SESSIONS = Theorem("sessions", [
     clauses("publisher_desk", "publisher.rt", "read"),
     clauses("publisher_desk", "publisher.rt", "next_step"),
     clauses("publisher_desk", "publisher.rt", "with_slots"),
+    clauses("publisher_desk", "publisher.rt", "with_slots_for"),
     clauses("publisher_desk", "publisher.rt", "compare"),
     clauses("publisher_desk", "publisher.rt", "compare_seat"),
-], most=1600, tokens={
+], most=1750, tokens={
     "OwnsHeld": "that the number by which a `Viewer` acquired its slot is among its own, from which `release` is proved",
     **BOOKS,
     "book_limit": LIMIT,
@@ -236,12 +237,12 @@ CLOSED = Theorem("closed", [
     clauses("senders", "closing.rt", "close"),
     clauses("senders", "served.rt", "check", "seen"),
     clauses("senders", "served.rt", "compare", "apart"),
-    clauses("publisher_desk", "closing.rt", "check_seat", "seen"),
-    clauses("publisher_desk", "closing.rt", "book", "used", "confirmed", "turns"),
+    clauses("publisher_desk", "closing.rt", "check_seat", "seen", "events"),
+    clauses("publisher_desk", "closing.rt", "book", "used", "confirmed", "turns", "within"),
     clauses("publisher_desk", "closing.rt", "count", "counted"),
     clauses("senders", "laws.rt", "closed_publishers_were_followed"),
     MADE,
-], most=2500, tokens={
+], most=2600, tokens={
     **HANDED,
     **FRAMES,
     **BOOKS,
@@ -252,7 +253,7 @@ CLOSED = Theorem("closed", [
 PROGRAM = Theorem("program", [
     clauses("cli", "program.rt", "run"),
     clauses("cli", "program.rt", "run_serving"),
-], most=6850, tokens={
+], most=6950, tokens={
     "IsClosed": Ensured(
         "what `close` of `senders` ensures, which is read in part 5",
         (clauses("senders", "closing.rt", "close", "ok"),)),

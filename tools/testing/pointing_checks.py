@@ -95,7 +95,7 @@ TOLD = [
     (["simulate"], f"{CATALOG}%%\no 0\n%%\n", 1, "refused NoIdentity public.t\n",
      ["f:1:14: the replica identity of public.t does not identify its rows"]),
     (["serve", "--port", "1"], f"{CATALOG}%%\no 0\n%%\n", 1, "listening 1\nclose TakenDiffers\n",
-     ["pgshard: a finished connection stops before the end of the log"]),
+     ["pgshard: a connection took other commits than it was sent, or stops before the end of the log"]),
     (["serve", "--port", "1"], f"{CATALOG}%%\no 0\n%%\n", 1, "listening 1\nclose ConnectionMissing\n",
      ["pgshard: the result of a connection is missing"]),
     # Outputs that give no position.

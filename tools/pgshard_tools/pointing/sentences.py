@@ -33,7 +33,7 @@ CLOSINGS = {
     "CountDiffers": "the number of commits in the log is not the number that was answered",
     "ReceiptMissing": "a commit in the log is not one that was answered",
     "ReadingWrong": "a reading differs from what the commits left",
-    "TakenDiffers": "a finished connection stops before the end of the log",
+    "TakenDiffers": "a connection took other commits than it was sent, or stops before the end of the log",
     "ConnectionMissing": "the result of a connection is missing",
     "StartLate": "a stream started after a commit that no client of its slot confirmed",
     "SlotDiffers": "a slot is confirmed past a commit that no client of the slot confirmed",
