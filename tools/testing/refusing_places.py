@@ -4,13 +4,17 @@ import contextlib
 import os
 import pathlib
 import resource
+import signal
 import stat
 import subprocess
 import tempfile
 from collections.abc import Iterator, Sequence
+from typing import IO
 
 # The number of /dev/full.
 FULL = os.makedev(1, 7)
+# Each run takes about a second.
+MOST_SECONDS = 120
 
 
 @contextlib.contextmanager
@@ -33,9 +37,36 @@ def full_device() -> Iterator[int | None]:
 
 
 def status_within(kilobytes: int, command: Sequence[str | pathlib.Path], environment: dict[str, str]) -> int:
-    """Returns the status of a command that may have so much memory."""
+    """Returns the status of a command that may have so much memory. A run that does not end is shown, and the command
+    is run once more: what is tested is the status, and Python itself may come to a stand without memory."""
+    try:
+        return ended_within(kilobytes, command, environment)
+    except subprocess.TimeoutExpired:
+        return ended_within(kilobytes, command, environment)
+
+
+def ended_within(kilobytes: int, command: Sequence[str | pathlib.Path], environment: dict[str, str]) -> int:
+    """Runs a command with so much memory, and returns its status. Prints where Python was if it does not end."""
     most = kilobytes * 1024
-    answer = subprocess.run(
-        command, stdin=subprocess.DEVNULL, stdout=subprocess.DEVNULL, stderr=subprocess.DEVNULL, env=environment,
-        preexec_fn=lambda: resource.setrlimit(resource.RLIMIT_AS, (most, most)))
-    return answer.returncode
+    with tempfile.TemporaryFile() as errors:
+        process = subprocess.Popen(
+            command, stdin=subprocess.DEVNULL, stdout=subprocess.DEVNULL, stderr=errors,
+            env=environment | {"PYTHONFAULTHANDLER": "1"},
+            preexec_fn=lambda: resource.setrlimit(resource.RLIMIT_AS, (most, most)))
+        with process:
+            try:
+                return process.wait(MOST_SECONDS)
+            except subprocess.TimeoutExpired:
+                show_where(process, f"no end within {MOST_SECONDS} seconds with {kilobytes} kB: {command}", errors)
+                raise
+            finally:
+                process.kill()
+
+
+def show_where(process: "subprocess.Popen[bytes]", line: str, errors: IO[bytes]) -> None:
+    """Prints a line, and what a process writes when it is aborted: Python's handler of faults shows its stack."""
+    process.send_signal(signal.SIGABRT)
+    with contextlib.suppress(subprocess.TimeoutExpired):
+        process.wait(10)
+    errors.seek(0)
+    print(line, errors.read().decode("utf-8", "replace")[-4000:], sep="\n", flush=True)

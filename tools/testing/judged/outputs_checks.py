@@ -5,6 +5,7 @@ import subprocess
 import sys
 from collections.abc import Callable, Sequence
 
+from pgshard_tools.judging.pythons import SYSTEM_PYTHON
 from programs import PGSHARD, TOOLS
 from refusing_places import full_device, status_within
 from server import Server, environment
@@ -17,6 +18,8 @@ OF_FILE = [(), ("--json",), ("--nagios",), ("--all",), ("--help",), ("--version"
 OF_DATABASE = [(), ("--json",), ("--repair", "t"), ("--catalog", "t"), ("--databases",), ("--watch", "1")]
 
 NO_MEMORY, NO_OUTPUT, UNKNOWN = 5, 6, 3
+# The Pythons that run judge: the system's, if this one has no pglast.
+PYTHONS = [sys.executable, SYSTEM_PYTHON] if os.access(SYSTEM_PYTHON, os.X_OK) else [sys.executable]
 # Limits of memory in kB. Below the first of them Python does not start, and above the last judge answers.
 LIMITS = range(8_000, 40_000, 2_000)
 
@@ -64,11 +67,11 @@ def ran(words: Sequence[str], output: int | None, first: Callable[[], None] | No
 
 
 def check_memory(tally: Tally) -> None:
-    """Checks that judge answers or says that memory is refused, at each limit at which Python starts."""
+    """Checks that judge answers or says that memory is refused, at each limit at which each Python starts."""
     found, variables = set(), environment() | {"PGSHARD": PGSHARD}
     for limit in LIMITS:
         for word, refused in ("--all", NO_MEMORY), ("--nagios", UNKNOWN):
-            if status_within(limit, [sys.executable, "-c", ""], variables) == 0:
+            if all(status_within(limit, [python, "-c", ""], variables) == 0 for python in PYTHONS):
                 status = status_within(limit, [sys.executable, TOOLS / "judge", CATALOG, word], variables)
                 found.add(status)
                 tally.check(f"{word} with {limit} kB", status if status not in (0, refused) else None, None)
