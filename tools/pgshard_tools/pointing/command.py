@@ -60,16 +60,17 @@ class Input:
                 self.pieces = None
 
     def hand_on(self) -> None:
-        """Passes on the input until it ends, or the program stops reading."""
+        """Passes on the input until it ends, a read fails, or the program stops reading."""
         piece = bytearray(PIECE)
         self.has_begun.wait()
         try:
             while count := os.readv(0, [piece]):
                 self.keep(memoryview(piece)[:count])
                 write(self.writer, memoryview(piece)[:count])
-            os.close(self.writer)
         except OSError:
             pass
+        finally:
+            os.close(self.writer)
 
     def keep(self, piece: bytes | memoryview) -> None:
         """Keeps a piece for the explanations. If memory is refused, there are none."""
