@@ -37,7 +37,7 @@ def needed(name: str, is_there: Callable[[], object], why: str) -> Need:
 
 
 # The time limit of a part in seconds, and the time after it when the tests are ended in any case.
-MOST_SECONDS = 1800
+MOST_SECONDS = 3600
 GRACE = 120
 
 NO_SERVER = "PostgreSQL 15 and psql are not installed"
