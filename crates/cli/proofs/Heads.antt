@@ -30,7 +30,7 @@ use Rattle.commands.specs.declared.failure.Status.{Status}
 use Rattle.commands.specs.declared.failure.Status.TheVariants.{Refused}
 use Rattle.cli.proofs.LineLemmas.{at_end_of_all, ended_lines-line, ended_lines-plain, ended_lines-text, lines_of-text, no_first_part, no_second_part, parts_there, quit_plain, whole_unread}
 use Rattle.cli.specs.Lines.{AreLast, Ends, Fails, Quits, LineParts, ReadsPart, StopsPart, ended_lines, parts_of}
-use Rattle.cli.specs.Published.{AfterQuit, AreUnanswered, AreUnansweredFor, EndsPublishing, ReadFailed, NoneLeft, HasClosed, HasSaid, AreEarlierLines, IsBegunPublishing, IsPublishHead, IsPublishing, IsTalk, Serves}
+use Rattle.cli.specs.Published.{AfterQuit, AreUnanswered, AreUnansweredFor, EndsPublishing, MayFail, NoneLeft, HasClosed, HasSaid, AreEarlierLines, IsBegunPublishing, IsPublishHead, IsPublishing, IsTalk, Serves}
 use Rattle.cli.specs.Requests.{AcceptsInput, AnswersReader}
 use Rattle.cli.specs.Talks.{AreLastFor, Conversation}
 use Rattle.cli.specs.declared.requests.Feed.{Feed}
@@ -370,29 +370,29 @@ module _ (may_fail : Bool) (feed : Feed) (known old : Option (List ℕ)) where
                 first = written_first lines said;
               })
 
-          last_lines : (fails : Bool) (bytes rest : List ℕ) → AreLast fails left later bytes
-              → (IfSome left (λ all. IsAtEnd later) → rest ≡ []) → AreUnanswered fails (ended_lines (bytes ++ rest))
-          last_lines fails bytes rest (Quits is) none =
+          last_lines : (bytes rest : List ℕ) → AreLast may_fail left later bytes
+              → (IfSome left (λ all. IsAtEnd later) → rest ≡ []) → AreUnanswered may_fail (ended_lines (bytes ++ rest))
+          last_lines bytes rest (Quits is) none =
               let line : ended_lines (bytes ++ rest) ≡ codes "QUIT;" ∷ ended_lines rest =
               ap (λ (b : List ℕ). ended_lines (b ++ rest)) is
               ∙ ap ended_lines (append_assoc (codes "QUIT;") (10 ∷ []) rest)
               ∙ ended_lines-line (codes "QUIT;") rest quit_plain in
-              subst (AreUnanswered fails) (sym line) (AfterQuit (ended_lines rest))
-          last_lines fails bytes rest (Ends plain ends) none =
+              subst (AreUnanswered may_fail) (sym line) (AfterQuit (ended_lines rest))
+          last_lines bytes rest (Ends plain ends) none =
               let no_line : ended_lines (bytes ++ rest) ≡ [] =
               ap (λ (r : List ℕ). ended_lines (bytes ++ r)) (none ends) ∙ ap ended_lines (append-nil bytes)
               ∙ ended_lines-plain bytes plain in
-              subst (AreUnanswered fails) (sym no_line) NoneLeft
-          last_lines fails bytes rest (Fails is) none = ReadFailed (ended_lines (bytes ++ rest)) is
+              subst (AreUnanswered may_fail) (sym no_line) NoneLeft
+          last_lines bytes rest (Fails is) none = MayFail (ended_lines (bytes ++ rest)) is
 
-          unanswered : (callers : Option ℕ) (fails : Bool) (answers : List (List ℕ)) (own : SeatOf)
+          unanswered : (callers : Option ℕ) (answers : List (List ℕ)) (own : SeatOf)
               (talk : Conversation (checked_by catalog) feed.limit empty_seat left later answers own)
-              → AreLastFor callers fails left later talk.more
-              → AreUnansweredFor callers fails (is_talk answers own talk).unsaid
-          unanswered (Some port) fails answers own talk last = last
-          unanswered None fails answers own talk last =
+              → AreLastFor callers may_fail left later talk.more
+              → AreUnansweredFor callers may_fail (is_talk answers own talk).unsaid
+          unanswered (Some port) answers own talk last = tt
+          unanswered None answers own talk last =
               let bytes = text_of talk.lines ++ talk.more in
-              last_lines fails talk.more (given_more later bytes talk.consumed).0 last
+              last_lines talk.more (given_more later bytes talk.consumed).0 last
               (starts_all known left later head bytes head_read
               (Consumes-trans known left later head bytes head_read talk.consumed))
 
@@ -413,14 +413,9 @@ module _ (may_fail : Bool) (feed : Feed) (known old : Option (List ℕ)) where
                     earlier = all.earlier;
                     line = all.line;
                     first = written_first all.earlier all.said;
-                    fails = all.fails;
-                    closing = all.closing;
-                    unanswered = unanswered all.said.callers all.fails all.said.answers all.said.own
-                        all.said.conversation all.all;
-                    may = all.may;
+                    unanswered = unanswered all.said.callers all.said.answers all.said.own all.said.conversation all.all;
                     last = all.last;
                     are = all.are;
-                    status_is = all.status_is;
                   };
                 });
               }

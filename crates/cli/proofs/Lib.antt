@@ -6,7 +6,6 @@ pub mod Crossing
 pub mod Exits
 pub mod Heads
 pub mod Invocations
-pub mod Keeping
 pub mod LastLines
 pub mod LineAnswers
 pub mod LineLemmas

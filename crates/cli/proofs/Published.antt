@@ -1,5 +1,5 @@
 -- What `publish` writes, and of which input that is the answer.
-use Rattle.std.proofs.Common.{Bool, true, ◌≡◌, inl, inr, ℕ, List, [], ◌++◌, Option, Some, None, append-nil, refl, sym, ap, subst, ◌∙◌}
+use Rattle.std.proofs.Common.{Bool, ◌≡◌, inl, inr, ℕ, List, [], ◌++◌, Option, Some, None, append-nil, refl, sym, ap, subst, ◌∙◌}
 use Rattle.std.specs.Prelude.{IsErrAnd, IfErr, Result, Ok, Err}
 use Rattle.std.proofs.KnownBytes.{Appends-trans, Consumes-nil}
 use Rattle.std.proofs.lemmas.List.Elements.{All-nil}
@@ -12,8 +12,8 @@ use Rattle.commands.specs.Output.{WritesFirst, ended, text_of}
 use Rattle.commands.specs.declared.failure.Failure.{Failure}
 use Rattle.commands.specs.declared.failure.Failure.TheVariants as f
 use Rattle.commands.specs.declared.failure.Status.{Status}
-use Rattle.cli.specs.Published.{AreCallersAt, Closes, HasClosed, IsClosing, IsLastLine, HasSaid, IsPortFor, Opens, Serves, StopsTelling, status_after}
-use Rattle.cli.specs.Talks.{Conversation, HasAnswered, HasAnsweredAll, IsCutOff, IsSeatOf, Nobody, Nothing}
+use Rattle.cli.specs.Published.{AreCallersAt, Closes, HasClosed, IsClosing, IsLastLine, HasSaid, IsPortFor, Opens, Serves, StopsTelling}
+use Rattle.cli.specs.Talks.{Conversation, HasAnswered, IsCutOff, IsSeatOf, Nobody, Nothing}
 use Rattle.cli.specs.Lines.{IsPlain}
 use Rattle.cli.specs.Telling.{IsStop, WritesLine, first_lines}
 use Rattle.cli.specs.declared.requests.Feed.{Feed}
@@ -170,13 +170,12 @@ module _ (feed : Feed) (checked : CheckedOf) (may_fail : Bool) where
         cut))
 
     -- memory is refused after the session
-    pub no_memory : (new : Option (List ℕ)) (limit : ℕ) (fails : Bool) {had has : SeatOf}
-        (result : Result Status Failure) → feed.limit ≡ limit → had ≡ empty_seat
-        → HasAnsweredAll checked limit callers may_fail before after mid new had has fails
+    pub no_memory : (new : Option (List ℕ)) (limit : ℕ) {had has : SeatOf} (result : Result Status Failure)
+        → feed.limit ≡ limit → had ≡ empty_seat → HasAnswered checked limit callers may_fail before after mid new had has
         → IsErrAnd result (λ failed. failed ≡ f.OutOfMemory) → Serves feed checked before after may_fail old new result
-    no_memory new limit fails {had} {has} result same none answers is =
-        let answered = subst (λ (l : ℕ). HasAnswered checked l callers fails before after mid new had has) (sym same)
-        answers.0 in
+    no_memory new limit {had} {has} result same none answers is =
+        let answered = subst (λ (l : ℕ). HasAnswered checked l callers may_fail before after mid new had has) (sym same)
+        answers in
         cut_off_returned new had has f.OutOfMemory result none
         (record {
           answers = answered.answers;
@@ -189,21 +188,17 @@ module _ (feed : Feed) (checked : CheckedOf) (may_fail : Bool) where
         is
 
     -- the last line comes
-    closed_lines : {has : SeatOf} (now : Option (List ℕ)) (fails : Bool) → (fails ≡ true → may_fail ≡ true)
-        → (answered : HasAnswered checked feed.limit callers fails before after mid now empty_seat has)
-        (lines : List (List ℕ)) (status : Status) → IsClosing checked feed.limit has lines status
-        → HasClosed feed checked before after may_fail ((firsts ++ answered.answers) ++ lines) (status_after fails status)
-    closed_lines {has} now fails may answered lines status told = record {
+    closed_lines : {has : SeatOf} (now : Option (List ℕ))
+        (answered : HasAnswered checked feed.limit callers may_fail before after mid now empty_seat has) (lines : List (List ℕ))
+        (status : Status) → IsClosing checked feed.limit has lines status
+        → HasClosed feed checked before after may_fail ((firsts ++ answered.answers) ++ lines) status
+    closed_lines {has} now answered lines status closing = record {
       earlier = firsts ++ answered.answers;
-      line = told.line;
-      fails = fails;
-      closing = status;
+      line = closing.line;
       said = said answered.answers answered.own has answered.conversation answered.seat_is;
       all = answered.last;
-      may = may;
-      last = told.last;
-      are = ap (λ (l : List (List ℕ)). (firsts ++ answered.answers) ++ l) told.are;
-      status_is = refl;
+      last = closing.last;
+      are = ap (λ (l : List (List ℕ)). (firsts ++ answered.answers) ++ l) closing.are;
     }
 
     all_text : (answers lines : List (List ℕ))
@@ -212,26 +207,21 @@ module _ (feed : Feed) (checked : CheckedOf) (may_fail : Bool) where
         flat_map-append ended (firsts ++ answers) lines
         ∙ ap (λ (t : List ℕ). t ++ text_of lines) (said_text answers)
 
-    abbrev with_fails : Bool → Result Status Failure → Result Status Failure
-    with_fails fails (Ok status) = Ok (status_after fails status)
-    with_fails fails (Err failure) = Err failure
-
-    closes_then : (now new : Option (List ℕ)) (has : SeatOf) (fails : Bool) (result : Result Status Failure)
-        → (fails ≡ true → may_fail ≡ true)
-        → (answered : HasAnswered checked feed.limit callers fails before after mid now empty_seat has)
+    closes_then : (now new : Option (List ℕ)) (has : SeatOf) (result : Result Status Failure)
+        → (answered : HasAnswered checked feed.limit callers may_fail before after mid now empty_seat has)
         → Closes checked feed.limit has now new result
-        → Serves feed checked before after may_fail old new (with_fails fails result)
-    closes_then now new has fails (Ok status) may answered closing =
+        → Serves feed checked before after may_fail old new result
+    closes_then now new has (Ok status) answered closing =
         let before_last = Appends-trans old mid now first_text (text_of answered.answers) opens.written
         answered.written in
         record {
           lines = (firsts ++ answered.answers) ++ closing.lines;
-          whole = closed_lines now fails may answered closing.lines status closing.whole;
+          whole = closed_lines now answered closing.lines status closing.whole;
           appends = subst (Appends old new) (sym (all_text answered.answers closing.lines))
               (Appends-trans old now new (first_text ++ text_of answered.answers) (text_of closing.lines) before_last
               closing.appends);
         }
-    closes_then now new has fails (Err f.OutOfMemory) may answered closing =
+    closes_then now new has (Err f.OutOfMemory) answered closing =
         let before_last = Appends-trans old mid now first_text (text_of answered.answers) opens.written
         answered.written in
         record {
@@ -242,7 +232,7 @@ module _ (feed : Feed) (checked : CheckedOf) (may_fail : Bool) where
               (Appends-trans old now new (first_text ++ text_of answered.answers) [] before_last
               (subst (λ (lines : List (List ℕ)). Appends now new (text_of lines)) closing.begun closing.appends));
         }
-    closes_then now new has fails (Err f.Output) may answered closing =
+    closes_then now new has (Err f.Output) answered closing =
         let before_last = Appends-trans old mid now first_text (text_of answered.answers) opens.written
         answered.written in
         let first = first_after (first_text ++ text_of answered.answers) (text_of closing.lines) old now new before_last
@@ -257,46 +247,23 @@ module _ (feed : Feed) (checked : CheckedOf) (may_fail : Bool) where
           }
           | inr whole ↦ record {
             lines = (firsts ++ answered.answers) ++ closing.lines;
-            part = inr (status_after fails whole.0, closed_lines now fails may answered closing.lines whole.0 whole.1);
+            part = inr (whole.0, closed_lines now answered closing.lines whole.0 whole.1);
             first = subst (λ (t : List ℕ). WritesFirst t old new) (sym (all_text answered.answers closing.lines)) first;
           }
         ]
-    closes_then now new has fails (Err (f.CommandLine why)) may answered closing = absurd closing
-    closes_then now new has fails (Err (f.Input fault)) may answered closing = absurd closing
+    closes_then now new has (Err (f.CommandLine why)) answered closing = absurd closing
+    closes_then now new has (Err (f.Input fault)) answered closing = absurd closing
 
     -- if the session began with an empty seat
-    closes_from : (now new : Option (List ℕ)) (limit : ℕ) (fails : Bool) {had has : SeatOf}
-        (result : Result Status Failure) → feed.limit ≡ limit → had ≡ empty_seat
-        → HasAnsweredAll checked limit callers may_fail before after mid now had has fails
-        → Closes checked limit has now new result
-        → Serves feed checked before after may_fail old new (with_fails fails result)
-    closes_from now new limit fails {had} {has} result same none answers closing =
-        let answered = subst (λ (l : ℕ). HasAnswered checked l callers fails before after mid now had has) (sym same)
-        answers.0 in
-        let first = subst (λ (seat : SeatOf). HasAnswered checked feed.limit callers fails before after mid now seat has)
+    pub closes_after : (now new : Option (List ℕ)) (limit : ℕ) {had has : SeatOf} (result : Result Status Failure)
+        → feed.limit ≡ limit → had ≡ empty_seat → HasAnswered checked limit callers may_fail before after mid now had has
+        → Closes checked limit has now new result → Serves feed checked before after may_fail old new result
+    closes_after now new limit {had} {has} result same none answers closing =
+        let answered = subst (λ (l : ℕ). HasAnswered checked l callers may_fail before after mid now had has) (sym same)
+        answers in
+        let first = subst (λ (seat : SeatOf). HasAnswered checked feed.limit callers may_fail before after mid now seat has)
         none answered in
-        closes_then now new has fails result answers.1 first
-        (subst (λ (l : ℕ). Closes checked l has now new result) (sym same) closing)
-
-    -- with the status that is returned
-    pub closes_after : (now new : Option (List ℕ)) (limit : ℕ) (fails : Bool) {had has : SeatOf} (status last : Status)
-        → feed.limit ≡ limit → had ≡ empty_seat
-        → HasAnsweredAll checked limit callers may_fail before after mid now had has fails
-        → Closes checked limit has now new (Ok last) → status ≡ status_after fails last
-        → Serves feed checked before after may_fail old new (Ok status)
-    closes_after now new limit fails status last same none answers closing is =
-        subst (λ (s : Status). Serves feed checked before after may_fail old new (Ok s)) (sym is)
-        (closes_from now new limit fails (Ok last) same none answers closing)
-
-    pub closes_returned : (now new : Option (List ℕ)) (limit : ℕ) (fails : Bool) {had has : SeatOf} (failure : Failure)
-        (result : Result Status Failure) → feed.limit ≡ limit → had ≡ empty_seat
-        → HasAnsweredAll checked limit callers may_fail before after mid now had has fails
-        → Closes checked limit has now new (Err failure) → IsErrAnd result (λ failed. failed ≡ failure)
-        → Serves feed checked before after may_fail old new result
-    closes_returned now new limit fails failure (Ok told) same none answers closing is = absurd is
-    closes_returned now new limit fails failure (Err failed) same none answers closing is =
-        subst (λ (f : Failure). Serves feed checked before after may_fail old new (Err f)) (sym is)
-        (closes_from now new limit fails (Err failure) same none answers closing)
+        closes_then now new has result first (subst (λ (l : ℕ). Closes checked l has now new result) (sym same) closing)
 
 -- ---- before the lines
 

@@ -1,8 +1,7 @@
 -- Lines are answered one after another, and it may stop at each.
-use Rattle.std.proofs.Common.{◌≡◌, ℕ, Bool, true, false, List, [], ◌∷◌, ◌++◌, All, Option, Some, None, append-nil, codes, refl, sym, subst}
+use Rattle.std.proofs.Common.{◌≡◌, ℕ, Bool, List, [], ◌∷◌, ◌++◌, All, Option, Some, None, append-nil, codes, refl, sym, subst}
 use Rattle.std.specs.Prelude.{IfErr, IsErrAnd, Result, Ok, Err}
 use Rattle.std.proofs.KnownBytes.{Appends-nil, Appends-trans, Consumes-nil, Consumes-trans}
-use Rattle.std.proofs.lemmas.Bool.{false≢true}
 use Rattle.std.proofs.lemmas.List.Concat.{flat_map-append}
 use Rattle.std.proofs.lemmas.List.Elements.{All-nil, All-push}
 use Rattle.std.specs.Io.KnownBytes.{Appends, Consumes}
@@ -15,19 +14,8 @@ use Rattle.commands.specs.declared.failure.Failure.TheVariants as f
 use Rattle.commands.specs.declared.failure.InputFault.{InputFault}
 use Rattle.commands.specs.declared.failure.InputFault.TheVariants as i
 use Rattle.cli.proofs.LineLemmas.{last_of_all}
-use Rattle.cli.specs.Lines.{AreLast, Ends, Fails, IsPlain, Quits, ReadsLine, StopsLine}
-use Rattle.cli.specs.Talks.{AreAnswered, Conversation, GoesOn, HasAnswered, HasAnsweredAll, HasBegun, HasEnded, HasQuit, IsCutOff, IsSeatOf, Nobody, Nothing, OneMore, StopsNext, is_failed}
-use Rattle.cli.specs.declared.publish.session.Ending.{Ending}
-use Rattle.cli.specs.declared.publish.session.Ending.TheVariants as e
-
--- only a reader whose reads may fail stops for another reason than memory
-pub may_fail_here : (may_fail : Bool) (fault : InputFault) → StopsLine may_fail (f.Input fault) → may_fail ≡ true
-may_fail_here may_fail i.Unread fails = fails
-may_fail_here may_fail i.Parts fails = absurd fails
-may_fail_here may_fail (i.Catalog error) fails = absurd fails
-may_fail_here may_fail (i.Table name) fails = absurd fails
-may_fail_here may_fail (i.Certificate number error) fails = absurd fails
-may_fail_here may_fail (i.Script error) fails = absurd fails
+use Rattle.cli.specs.Lines.{Ends, Fails, IsPlain, Quits, ReadsLast, ReadsLine, ReadsSome, StopsLine}
+use Rattle.cli.specs.Talks.{AreAnswered, Conversation, GoesOn, HasAnswered, HasBegun, IsCutOff, IsOver, IsSeatOf, Nobody, Nothing, OneMore, StopsNext}
 
 module _ (checked : CheckedOf) (limit : ℕ) where
   -- so far: lines were read and answered, and the answers are written
@@ -110,54 +98,42 @@ module _ (checked : CheckedOf) (limit : ℕ) where
   }
 
   -- there is no further line
-  is_over : (fails : Bool) (before now after old written new : Option (List ℕ)) (had has next : SeatOf)
-      → IsSoFar before now old written had has → (more : List ℕ) → Consumes now after more
-      → AreLast fails now after more → new ≡ written → next ≡ has
-      → HasAnswered checked limit None fails before after old new had next
+  pub over_at_end : (may_fail : Bool) (before after old new : Option (List ℕ)) → ReadsLast before after → new ≡ old
+      → IsOver checked limit may_fail before after old new
+  over_at_end may_fail before after old new last same =
+      record { more = last.bytes; consumed = last.consumed; last = Ends last.plain last.at_end; unwritten = same }
+
+  pub over_failed : (may_fail : Bool) (before after old new : Option (List ℕ)) (fault : InputFault)
+      → ReadsSome before after → StopsLine may_fail (f.Input fault) → new ≡ old
+      → IsOver checked limit may_fail before after old new
+  over_failed may_fail before after old new i.Unread some fails same =
+      record { more = some.bytes; consumed = some.consumed; last = Fails fails; unwritten = same }
+  over_failed may_fail before after old new i.Parts some fails same = absurd fails
+  over_failed may_fail before after old new (i.Catalog error) some fails same = absurd fails
+  over_failed may_fail before after old new (i.Table name) some fails same = absurd fails
+  over_failed may_fail before after old new (i.Certificate number error) some fails same = absurd fails
+  over_failed may_fail before after old new (i.Script error) some fails same = absurd fails
+
+  pub is_over : (may_fail : Bool) (before now after old written new : Option (List ℕ)) (had has next : SeatOf)
+      → IsSoFar before now old written had has → IsOver checked limit may_fail now after written new → next ≡ has
+      → HasAnswered checked limit None may_fail before after old new had next
   unfolding talk
-  is_over fails before now after old written new had has next far more consumed last silent same = record {
+  is_over may_fail before now after old written new had has next far over same = record {
     answers = far.answers;
     own = has;
-    conversation = talk before now after old written had has far more consumed;
-    last = last_of_all fails before now after (text_of far.lines) more far.consumed last;
+    conversation = talk before now after old written had has far over.more over.consumed;
+    last = last_of_all may_fail before now after (text_of far.lines) over.more far.consumed over.last;
     seat_is = same;
-    written = subst (λ (n : Option (List ℕ)). Appends old n (text_of far.answers)) (sym silent) far.appends;
+    written = subst (λ (n : Option (List ℕ)). Appends old n (text_of far.answers)) (sym over.unwritten) far.appends;
   }
 
   -- the next line is `QUIT;`
-  quits : (before now after old written new : Option (List ℕ)) (had has next : SeatOf)
+  pub quits : (may_fail : Bool) (before now after old written new : Option (List ℕ)) (had has next : SeatOf)
       → IsSoFar before now old written had has → ReadsLine now after (codes "QUIT;") → new ≡ written → next ≡ has
-      → HasAnswered checked limit None false before after old new had next
-  quits before now after old written new had has next far read silent same =
-      is_over false before now after old written new had has next far (ended (codes "QUIT;")) read.consumed (Quits refl)
-      silent same
-
-  -- no further line is answered
-  pub ends : (may_fail : Bool) (before now after old written new : Option (List ℕ)) (had has next : SeatOf)
-      (ending : Ending) → IsSoFar before now old written had has
-      → HasEnded checked limit may_fail now after written new has next ending
-      → HasAnsweredAll checked limit None may_fail before after old new had next (is_failed ending)
-  ends may_fail before now after old written new had has next e.Quit far gone = (
-    quits before now after old written new had has next far gone.0 gone.1 gone.2,
-    λ fails. absurd (false≢true fails),
-  )
-  ends may_fail before now after old written new had has next e.Over far gone = (
-    is_over false before now after old written new had has next far gone.0.bytes gone.0.consumed
-        (Ends gone.0.plain gone.0.at_end) gone.1 gone.2,
-    λ fails. absurd (false≢true fails),
-  )
-  ends may_fail before now after old written new had has next e.Failed far gone = (
-    is_over true before now after old written new had has next far gone.0.bytes gone.0.consumed (Fails refl) gone.1
-        gone.2,
-    λ fails. gone.3,
-  )
-
-  pub has_quit : (may_fail : Bool) (before after old new : Option (List ℕ)) (had has : SeatOf) (ending : Ending)
-      → HasEnded checked limit may_fail before after old new had has ending → ending ≡ e.Quit
-      → HasQuit checked limit after
-  has_quit may_fail before after old new had has ending gone is =
-      let quit = subst (HasEnded checked limit may_fail before after old new had has) is gone in
-      record { before = before; line = quit.0 }
+      → HasAnswered checked limit None may_fail before after old new had next
+  quits may_fail before now after old written new had has next far read silent same =
+      is_over may_fail before now after old written new had has next far
+      (record { more = ended (codes "QUIT;"); consumed = read.consumed; last = Quits refl; unwritten = silent }) same
 
   -- it stops
   pub stops : (before now after old written new : Option (List ℕ)) (had has next : SeatOf) (failure : Failure)

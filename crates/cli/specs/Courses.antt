@@ -1,7 +1,7 @@
 -- What a command line leads to: it is answered, or it requests to serve; and how a run finishes.
-use Rattle.std.specs.Prelude.{◌≡◌, ◌≢◌, ℕ, Bool, false, List, Option, Result}
+use Rattle.std.specs.Prelude.{◌≡◌, ℕ, Bool, false, List, Option, Result}
 use Rattle.cli.specs.CommandLine.{IsRequest}
-use Rattle.cli.specs.Outcomes.{EndsKeeping, KeepsFault, NumberSaysFault}
+use Rattle.cli.specs.Outcomes.{NumberSaysFault}
 use Rattle.cli.specs.Requests.{CanServe}
 use Rattle.cli.specs.Runs.{IsProgramEnding, IsProgramOutcome, IsProgramRun}
 use Rattle.cli.specs.declared.program.Course.{Course}
@@ -43,10 +43,6 @@ Concludes ending mid new status =
 abbrev pub ConcludesFault : Result Status Failure → Bool → Bool → Status → Type 0
 ConcludesFault ending mid new status = (old : Bool) → EndsByFault old mid ending → SaysFault old new status
 
--- the same where the status of a failed write may have other causes
-abbrev pub ConcludesKeeping : Result Status Failure → Bool → Bool → Status → Type 0
-ConcludesKeeping ending mid new status = (old : Bool) → EndsKeeping old mid ending → KeepsFault old new status
-
 -- the same of the number of a status
 abbrev pub Finishes : Result Status Failure → Option (List ℕ) → Option (List ℕ) → ℕ → Type 0
 Finishes ending mid new number =
@@ -56,10 +52,6 @@ Finishes ending mid new number =
 
 abbrev pub FinishesFault : Result Status Failure → Bool → Bool → ℕ → Type 0
 FinishesFault ending mid new number = (old : Bool) → EndsByFault old mid ending → NumberSaysFault old new number
-
--- the same where the status of a failed write may have other causes
-abbrev pub FinishesKeeping : Result Status Failure → Bool → Bool → ℕ → Type 0
-FinishesKeeping ending mid new number = (old : Bool) → EndsKeeping old mid ending → number ≢ 4 → new ≡ old
 
 -- a request to serve is reported as a usage error, or memory ran out
 abbrev pub IsUnserved : Failure → Type 0

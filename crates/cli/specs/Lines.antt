@@ -89,12 +89,12 @@ StopsLine may_fail f.OutOfMemory = Unit {0}
 StopsLine may_fail (f.Input i.Unread) = may_fail ≡ true
 StopsLine may_fail _ = ⊥
 
--- Why nothing after these bytes is answered: they are the line `QUIT;`; or nothing is left, and they are no line; or a
--- read failed.
-pub data AreLast (fails : Bool) (old new : Option (List ℕ)) (bytes : List ℕ) : Type 0 where
-  Quits : bytes ≡ ended (codes "QUIT;") → AreLast fails old new bytes
-  Ends : IsPlain bytes → IfSome old (λ all. IsAtEnd new) → AreLast fails old new bytes
-  Fails : fails ≡ true → AreLast fails old new bytes
+-- Why nothing after these bytes is answered: they are the line `QUIT;`; or nothing is left, and they are no line; or
+-- the reader may fail.
+pub data AreLast (may_fail : Bool) (old new : Option (List ℕ)) (bytes : List ℕ) : Type 0 where
+  Quits : bytes ≡ ended (codes "QUIT;") → AreLast may_fail old new bytes
+  Ends : IsPlain bytes → IfSome old (λ all. IsAtEnd new) → AreLast may_fail old new bytes
+  Fails : may_fail ≡ true → AreLast may_fail old new bytes
 
 -- no line is `%%`
 abbrev pub HasNoSeparator : List (List ℕ) → Type 0

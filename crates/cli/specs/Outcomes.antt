@@ -2,7 +2,7 @@
 -- write fails. The format is this program's own.
 use Rattle.std.specs.Prelude.{◌≡◌, ◌≢◌, ℕ, ◌⊎◌, Bool, true, List, [], ◌∷◌, ◌++◌, Option, Result, Ok, Err, codes}
 use Rattle.std.specs.Io.KnownBytes.{Appends}
-use Rattle.commands.specs.Failures.{fault_line, exit_status, status_of_failure}
+use Rattle.commands.specs.Failures.{fault_line, exit_status}
 use Rattle.commands.specs.Output.{WritesFirst, text_of}
 use Rattle.commands.specs.declared.failure.Failure.{Failure}
 use Rattle.commands.specs.declared.failure.Failure.TheVariants as f
@@ -38,7 +38,7 @@ module _ (asked : Asked) where
   -- ---- the right outputs, if no write fails
 
   -- Status 0 or 1: the answer. 0: some text, if the help or the version is requested. 2: a line, and some text. 3: the
-  -- line of a fault of the input, or the answer of `publish` if reads may fail. 5: no line of the answer or its first ones, and the line `out of memory`.
+  -- line of a fault of the input. 5: no line of the answer or its first ones, and the line `out of memory`.
   pub data IsOutput : Status → List ℕ → Type 0 where
     Answered : (lines : List (List ℕ)) (status : Status) → asked.Answers lines status
         → IsOutput status (text_of lines)
@@ -96,20 +96,3 @@ module _ (asked : Asked) where
 -- with the number of a failed write, the writer has failed; with another one, this is unchanged
 abbrev pub NumberSaysFault : Bool → Bool → ℕ → Type 0
 NumberSaysFault old new number = (number ≡ 4 → new ≡ true) × (number ≢ 4 → new ≡ old)
-
--- ---- the same where that status may have other causes
-
--- with another status than that of a failed write, whether the writer has failed is unchanged
-abbrev pub KeepsFault : Bool → Bool → Status → Type 0
-KeepsFault old new Output = Unit {0}
-KeepsFault old new status = new ≡ old
-
--- the same of a result with a status
-abbrev pub EndsKeeping : Bool → Bool → Result Status Failure → Type 0
-EndsKeeping old new (Ok status) = KeepsFault old new status
-EndsKeeping old new (Err failure) = KeepsFault old new (status_of_failure failure)
-
--- the same of a result without one
-abbrev pub TellsKeeping : {A : Type 0} → Bool → Bool → Result A Failure → Type 0
-TellsKeeping old new (Ok value) = new ≡ old
-TellsKeeping old new (Err failure) = KeepsFault old new (status_of_failure failure)

@@ -30,7 +30,7 @@ use Rattle.commands.specs.declared.failure.Failure.{Failure}
 use Rattle.commands.specs.declared.failure.InputFault.{InputFault}
 use Rattle.commands.specs.declared.failure.InputFault.TheVariants as i
 use Rattle.commands.specs.declared.failure.Status.{Status}
-use Rattle.commands.specs.declared.failure.Status.TheVariants.{Done, Input, Refused}
+use Rattle.commands.specs.declared.failure.Status.TheVariants.{Done, Refused}
 use Rattle.cli.specs.Connections.{WasServed}
 use Rattle.cli.specs.Lines.{LineParts, ended_lines, parts_of}
 use Rattle.cli.specs.Serving.{IsRefusal}
@@ -66,13 +66,6 @@ module _ (checked : CheckedOf) (limit : ℕ) (seat : SeatOf) where
   abbrev pub Closes : Option (List ℕ) → Option (List ℕ) → Result Status Failure → Type 0
   Closes old new result = Writes IsClosing (λ lines. lines ≡ []) old new result
 
--- The status of a session whose last line has this status. If a read failed, it is that of an input that cannot be
--- read, unless the line is a refusal.
-abbrev pub status_after : Bool → Status → Status
-status_after false status = status
-status_after true Done = Input
-status_after true status = status
-
 -- ---- what is written
 
 -- the port is the requested one, or any if 0 was requested
@@ -98,16 +91,16 @@ pub record IsTalk (catalog : CatalogOf Expr) (limit : ℕ) (commands answers : L
   pub first : commands ≡ said ++ unsaid
   pub answered : AreAnswered (checked_by catalog) limit empty_seat said answers own
 
--- Why lines of commands are not answered: there are none, the first is `QUIT;`, or a read failed.
-pub data AreUnanswered (fails : Bool) : List (List ℕ) → Type 0 where
-  NoneLeft : AreUnanswered fails []
-  AfterQuit : (later : List (List ℕ)) → AreUnanswered fails (codes "QUIT;" ∷ later)
-  ReadFailed : (lines : List (List ℕ)) → fails ≡ true → AreUnanswered fails lines
+-- Why lines of commands are not answered: there are none, the first is `QUIT;`, or the reader may fail.
+pub data AreUnanswered (may_fail : Bool) : List (List ℕ) → Type 0 where
+  NoneLeft : AreUnanswered may_fail []
+  AfterQuit : (later : List (List ℕ)) → AreUnanswered may_fail (codes "QUIT;" ∷ later)
+  MayFail : (lines : List (List ℕ)) → may_fail ≡ true → AreUnanswered may_fail lines
 
--- no further line of commands has an answer, unless commands come from callers at a port: then the reader's are not read
+-- no further line of commands has an answer, unless commands come from callers at a port
 abbrev pub AreUnansweredFor : Option ℕ → Bool → List (List ℕ) → Type 0
-AreUnansweredFor None fails lines = AreUnanswered fails lines
-AreUnansweredFor (Some port) fails lines = fails ≡ false
+AreUnansweredFor None may_fail lines = AreUnanswered may_fail lines
+AreUnansweredFor (Some port) may_fail lines = Unit {0}
 
 -- That it listens, and those answers. If commands come from callers, the session's seat is that of their lines.
 pub record AreEarlierLines (feed : Feed) (catalog : CatalogOf Expr) (commands : List (List ℕ)) (lines : List (List ℕ)) :
@@ -122,20 +115,15 @@ pub record AreEarlierLines (feed : Feed) (catalog : CatalogOf Expr) (commands : 
   pub seat_is : IsSeatOf (checked_by catalog) feed.limit empty_seat callers answers talk.own seat
   pub are : lines ≡ first_lines port callers ++ answers
 
--- The answers to all lines of commands, or to the first ones, and a last line. `fails` is whether the session took a
--- read for failed, which it may only if reads may fail.
+-- the answers to all lines of commands, and a last line
 pub record ArePublishLines (may_fail : Bool) (feed : Feed) (catalog : CatalogOf Expr) (commands : List (List ℕ))
     (lines : List (List ℕ)) (status : Status) : Type 0 where
   pub earlier : List (List ℕ)
   pub line : List ℕ
-  pub fails : Bool
-  pub closing : Status
   pub first : AreEarlierLines feed catalog commands earlier
-  pub unanswered : AreUnansweredFor first.callers fails first.talk.unsaid
-  pub may : fails ≡ true → may_fail ≡ true
-  pub last : IsLastLine (checked_by catalog) feed.limit first.seat line closing
+  pub unanswered : AreUnansweredFor first.callers may_fail first.talk.unsaid
+  pub last : IsLastLine (checked_by catalog) feed.limit first.seat line status
   pub are : lines ≡ earlier ++ line ∷ []
-  pub status_is : status ≡ status_after fails closing
 
 -- ---- what is answered
 
@@ -226,14 +214,10 @@ module _ (feed : Feed) (checked : CheckedOf) (before after : Option (List ℕ)) 
   pub record HasClosed (may_fail : Bool) (lines : List (List ℕ)) (status : Status) : Type 0 where
     pub earlier : List (List ℕ)
     pub line : List ℕ
-    pub fails : Bool
-    pub closing : Status
     pub said : HasSaid earlier
-    pub all : AreLastFor said.callers fails before after said.conversation.more
-    pub may : fails ≡ true → may_fail ≡ true
-    pub last : IsLastLine checked feed.limit said.seat line closing
+    pub all : AreLastFor said.callers may_fail before after said.conversation.more
+    pub last : IsLastLine checked feed.limit said.seat line status
     pub are : lines ≡ earlier ++ line ∷ []
-    pub status_is : status ≡ status_after fails closing
 
   abbrev pub MayHaveSaid : List (List ℕ) → Type 0
   MayHaveSaid lines = (lines ≡ []) ⊎ HasSaid lines

@@ -19,7 +19,7 @@ use Rattle.commands.specs.declared.failure.Status.{Status}
 -- ---- of a request and its input
 
 -- The lines are the whole answer, and the status says whether it is a refusal; [] and 0 say that no row, table or step
--- is left. If `may_fail` says that reads may fail, those of `publish` may answer only its first lines of commands.
+-- is left. `may_fail` says whether reads may fail, since a read that fails ends the commands of `publish`.
 abbrev pub IsAnswer : Bool → Request → List ℕ → List (List ℕ) → Status → Type 0
 IsAnswer may_fail (Eval table wanted) input lines status =
     evaluation.IsEvaluation wanted input table.now [] lines status

@@ -18,10 +18,8 @@ use Rattle.publisher_desk.specs.Refusals.{HasFault}
 use Rattle.publisher_desk.specs.Seats.{SeatOf, SeesOn}
 use Rattle.publisher_desk.specs.declared.note.Note.TheVariants as n
 use Rattle.commands.specs.Failures.{fault_line}
-use Rattle.cli.specs.Lines.{AreLast, IsPlain, ReadsLast, ReadsLine, ReadsSome}
+use Rattle.cli.specs.Lines.{AreLast, IsPlain, ReadsLine, ReadsSome}
 use Rattle.cli.specs.Views.{IsView}
-use Rattle.cli.specs.declared.publish.session.Ending.{Ending}
-use Rattle.cli.specs.declared.publish.session.Ending.TheVariants as e
 use Rattle.cli.specs.declared.publish.session.Turn.{Turn}
 use Rattle.cli.specs.declared.publish.session.Turn.TheVariants as t
 use Rattle.commands.specs.Output.{WritesFirst, text_of}
@@ -49,17 +47,10 @@ first_unfit steps = unfit_from true steps
 
 -- ---- whether all is answered
 
--- the bytes after those of the lines are the last ones, unless commands come from callers at a port: then the reader is
--- not read
+-- the bytes after those of the lines are the last ones, unless commands come from callers at a port
 abbrev pub AreLastFor : Option ℕ → Bool → Option (List ℕ) → Option (List ℕ) → List ℕ → Type 0
-AreLastFor None fails before after bytes = AreLast fails before after bytes
-AreLastFor (Some port) fails before after bytes = fails ≡ false
-
--- whether a read failed
-abbrev pub is_failed : Ending → Bool
-is_failed e.Quit = false
-is_failed e.Over = false
-is_failed e.Failed = true
+AreLastFor None may_fail before after bytes = AreLast may_fail before after bytes
+AreLastFor (Some port) may_fail before after bytes = Unit {0}
 
 -- ---- what is answered
 
@@ -146,19 +137,19 @@ module _ (checked : CheckedOf) (limit : ℕ) where
     pub answered : Answers line had has text
     pub written : Appends old new text
 
-  -- no further line is answered
-  abbrev pub HasEnded : Bool → Option (List ℕ) → Option (List ℕ) → Option (List ℕ) → Option (List ℕ) → SeatOf → SeatOf
-      → Ending → Type 0
-  HasEnded may_fail before after old new had has e.Quit =
-      ReadsLine before after (codes "QUIT;") × (new ≡ old) × (has ≡ had)
-  HasEnded may_fail before after old new had has e.Over = ReadsLast before after × (new ≡ old) × (has ≡ had)
-  HasEnded may_fail before after old new had has e.Failed =
-      ReadsSome before after × (new ≡ old) × (has ≡ had) × (may_fail ≡ true)
+  -- the last bytes are read, and nothing is written
+  pub record IsOver (may_fail : Bool) (before after old new : Option (List ℕ)) : Type 0 where
+    pub more : List ℕ
+    pub consumed : Consumes before after more
+    pub last : AreLast may_fail before after more
+    pub unwritten : new ≡ old
 
   abbrev pub HasGone : Bool → Option (List ℕ) → Option (List ℕ) → Option (List ℕ) → Option (List ℕ) → SeatOf → SeatOf
       → Turn → Type 0
   HasGone may_fail before after old new had has t.Line = GoesOn before after old new had has
-  HasGone may_fail before after old new had has (t.Ended ending) = HasEnded may_fail before after old new had has ending
+  HasGone may_fail before after old new had has t.Quit =
+      ReadsLine before after (codes "QUIT;") × (new ≡ old) × (has ≡ had)
+  HasGone may_fail before after old new had has t.Over = IsOver may_fail before after old new × (has ≡ had)
 
   -- a line is read, and the first bytes of its answer are written
   pub record FailsToTell (before after old new : Option (List ℕ)) (had has : SeatOf) : Type 0 where
@@ -198,20 +189,14 @@ module _ (checked : CheckedOf) (limit : ℕ) where
 
   -- `callers` is the port at which callers call, if commands come from callers
   module _ (callers : Option ℕ) where
-    -- the answers to all lines are written, or, if a read failed, to the first ones
-    pub record HasAnswered (fails : Bool) (before after old new : Option (List ℕ)) (had has : SeatOf) : Type 0 where
+    -- the answers to all lines are written
+    pub record HasAnswered (may_fail : Bool) (before after old new : Option (List ℕ)) (had has : SeatOf) : Type 0 where
       pub answers : List (List ℕ)
       pub own : SeatOf
       pub conversation : Conversation had before after answers own
-      pub last : AreLastFor callers fails before after conversation.more
+      pub last : AreLastFor callers may_fail before after conversation.more
       pub seat_is : IsSeatOf had callers answers own has
       pub written : Appends old new (text_of answers)
-
-    -- a read fails only if reads of the reader may fail
-    abbrev pub HasAnsweredAll : Bool → Option (List ℕ) → Option (List ℕ) → Option (List ℕ) → Option (List ℕ) → SeatOf
-        → SeatOf → Bool → Type 0
-    HasAnsweredAll may_fail before after old new had has fails =
-        HasAnswered fails before after old new had has × (fails ≡ true → may_fail ≡ true)
 
     -- or the first of them
     pub record HasBegun (before after old new : Option (List ℕ)) (had : SeatOf) : Type 0 where

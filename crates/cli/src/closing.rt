@@ -3,7 +3,6 @@
 ghost use Rattle.std.specs.Prelude.{◌≡◌, All, map, IfErr, IfOk};
 ghost use Rattle.std.specs.Option.{option_map};
 ghost use Rattle.std.specs.String.{string_bytes};
-ghost use Rattle.commands.specs.Output.{TellsFault};
 ghost use Rattle.commands.specs.declared.failure.Status.TheVariants.{Done};
 ghost use Rattle.cli.specs.Connections.{HadMemory};
 ghost use Rattle.cli.specs.Telling as spec;
@@ -67,8 +66,7 @@ pub(crate) fn say<'a, W: Writer>(
     status: Status,
     writer: &mut W,
 ) -> Result<Status, Failure<'a>>
-    ensures writes { WritesLine (string_bytes line) status (W.contents writer.old) (W.contents writer.new) result }
-    ensures failed { TellsFault (W.has_failed writer.old) (W.has_failed writer.new) result }
+    ensures { WritesLine (string_bytes line) status (W.contents writer.old) (W.contents writer.new) result }
 {
     match write_line(&mut line, writer) {
         Ok(()) => Ok(status),
@@ -83,9 +81,8 @@ fn say_closed<'a, W: Writer>(
     connections: usize,
     writer: &mut W,
 ) -> Result<Status, Failure<'a>>
-    ensures closes { (service : ServiceOf) → IsLast service (closed_line commits connections) Done
+    ensures { (service : ServiceOf) → IsLast service (closed_line commits connections) Done
         → Closes service (W.contents writer.old) (W.contents writer.new) result }
-    ensures failed { TellsFault (W.has_failed writer.old) (W.has_failed writer.new) result }
 {
     let line = format!(in alloc; "closed {commits} {connections}")?;
     say(line, Status::Done, writer)
@@ -97,9 +94,8 @@ fn say_error<'a, W: Writer>(
     error: CloseError,
     writer: &mut W,
 ) -> Result<Status, Failure<'a>>
-    ensures closes { (service : ServiceOf) → IsLastOf service error
+    ensures { (service : ServiceOf) → IsLastOf service error
         → Closes service (W.contents writer.old) (W.contents writer.new) result }
-    ensures failed { TellsFault (W.has_failed writer.old) (W.has_failed writer.new) result }
 {
     let name = name_of(error).ok_or(Failure::OutOfMemory)?;
     let line = format!(in alloc; "close {name}")?;
@@ -120,9 +116,8 @@ pub fn close_and_tell<'a, P: Publishing, W: Writer, R: Eprint>(
 ) -> Result<Status, Failure<'a>>
     requires parts { P.parts ≡ 1000 }
     requires rest { rest ≡ 999 }
-    ensures closes { (service : ServiceOf) → IsFor service P.checked P.limit → IsOver service seat served.items
+    ensures { (service : ServiceOf) → IsFor service P.checked P.limit → IsOver service seat served.items
         → Closes service (W.contents writer.old) (W.contents writer.new) result }
-    ensures failed { TellsFault (W.has_failed writer.old) (W.has_failed writer.new) result }
 {
     let seats = vec![in alloc; seat]?;
     let checked = Arc::try_clone(publisher.checked())?;

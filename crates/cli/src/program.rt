@@ -7,8 +7,8 @@ ghost use Rattle.commands.specs.Output.{EndsByFault, StopsText, ended};
 ghost use Rattle.commands.specs.declared.failure.Status.TheVariants.{Done};
 ghost use Rattle.cli.specs.CommandLine.{CanDo};
 ghost use Rattle.commands.specs.Simulate.Limits.{IsLogLimit};
-ghost use Rattle.cli.specs.Courses.{Concludes, ConcludesFault, ConcludesKeeping, CourseSaysFault, Finishes, FinishesFault, FinishesKeeping, IsCourse, IsUnserved};
-ghost use Rattle.cli.specs.Outcomes.{EndsKeeping, NumberSaysFault};
+ghost use Rattle.cli.specs.Courses.{Concludes, ConcludesFault, CourseSaysFault, Finishes, FinishesFault, IsCourse, IsUnserved};
+ghost use Rattle.cli.specs.Outcomes.{NumberSaysFault};
 ghost use Rattle.cli.specs.Requests.{AcceptsInput, AnswersReader, CanServe, EndsRequest, UsesSockets};
 ghost use Rattle.cli.specs.Runs.{IsProgramRun};
 ghost use Rattle.cli.specs.declared.requests.Request.TheVariants.{Serve};
@@ -123,7 +123,6 @@ fn outcome<'a, W: Writer>(
 ) -> Status
     ensures concludes { Concludes ending.entry (W.contents writer.old) (W.contents writer.new) result }
     ensures failed { ConcludesFault ending.entry (W.has_failed writer.old) (W.has_failed writer.new) result }
-    ensures reported { ConcludesKeeping ending.entry (W.has_failed writer.old) (W.has_failed writer.new) result }
 {
     match ending {
         Ok(status) => status,
@@ -135,7 +134,6 @@ fn outcome<'a, W: Writer>(
 fn finish<'a, W: Writer>(alloc: Global, ending: Result<Status, Failure<'a>>, writer: &mut W) -> u8
     ensures finishes { Finishes ending.entry (W.contents writer.old) (W.contents writer.new) result }
     ensures failed { FinishesFault ending.entry (W.has_failed writer.old) (W.has_failed writer.new) result }
-    ensures reported { FinishesKeeping ending.entry (W.has_failed writer.old) (W.has_failed writer.new) result }
     ensures flushed { result ≢ 4 → W.is_flushed writer.new ≡ true }
 {
     let status = outcome(alloc, ending, writer);
@@ -187,7 +185,6 @@ pub fn run<S: AsStr, I: Reader + Drop, W: Writer>(
 }
 
 /// Answers `serve` for what a reader gives.
-#[tactic(auto, using(crate::proofs::Keeping::untouched))]
 fn serve_script<
     'a,
     I: Reader + Drop,
@@ -205,14 +202,12 @@ fn serve_script<
         (W.contents writer.new) result }
     ensures failed { AcceptsInput (Serve service) (I.remaining input) ⊎ EndsByFault (W.has_failed writer.old)
         (W.has_failed writer.new) result }
-    ensures reported { EndsKeeping (W.has_failed writer.old) (W.has_failed writer.new) result }
 {
     let input = read_input(rt.alloc(), input)?;
     serve_input(rt, rt.alloc(), service, input.as_str(), writer)
 }
 
 /// Answers any request for what a reader gives.
-#[tactic(auto, using(crate::proofs::Keeping::ends_keeping))]
 fn serve_reader<
     'a,
     I: Reader + Drop,
@@ -231,7 +226,6 @@ fn serve_reader<
         (W.contents writer.new) result }
     ensures failed { AcceptsInput request.entry (I.remaining input) ⊎ EndsByFault (W.has_failed writer.old)
         (W.has_failed writer.new) result }
-    ensures reported { EndsKeeping (W.has_failed writer.old) (W.has_failed writer.new) result }
 {
     if let Request::Serve(service) = request {
         return serve_script(rt, service, input, writer);
@@ -243,11 +237,9 @@ fn serve_reader<
 }
 
 /// Runs the whole program, as `run` does, and serves subscribers over sockets if the arguments request it. For `serve`
-/// and `publish` the status is 0 if all connections have ended and the publisher was closed, and 1 if the sharding is
-/// refused or the publisher cannot be closed. It is 3 also if a read of the commands of `publish` failed and the
-/// publisher was closed, and 4 also if a port cannot be used, the file of the ports cannot be written, or the listening
-/// socket of `serve` fails. Sockets are used only if the sharding was accepted, so otherwise 4 means that the writer
-/// failed.
+/// and `publish` the status is 0 if all connections have ended and the publisher was closed, 1 if the sharding is
+/// refused or the publisher cannot be closed, and 4 also if a port cannot be used, or the listening socket of `serve`
+/// fails. Sockets are used only if the sharding was accepted, so otherwise 4 means that the writer failed.
 pub fn run_serving<
     S: AsStr,
     I: Reader + Drop,
@@ -265,7 +257,6 @@ pub fn run_serving<
         (W.contents writer.new) result }
     ensures failed { UsesSockets (map S.text words.now) (I.remaining input) ⊎ NumberSaysFault (W.has_failed writer.old)
         (W.has_failed writer.new) result }
-    ensures reported { result ≢ 4 → W.has_failed writer.new ≡ W.has_failed writer.old }
     ensures flushed { result ≢ 4 → W.is_flushed writer.new ≡ true }
 {
     match answer_words(rt.alloc(), words, input, writer) {

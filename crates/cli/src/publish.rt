@@ -3,18 +3,16 @@
 //! which send commands. A `Berth` is a place for clients, whose thread serves one client after another. The `Hall` is
 //! what all places share: how many of them wait for a client, whether clients are still let in, and the timeouts.
 
-ghost use Rattle.std.specs.Prelude.{◌≡◌, ◌⊎◌, None, IfErr, IfOk};
+ghost use Rattle.std.specs.Prelude.{◌≡◌, ◌⊎◌, None, IfErr, OnOk};
 ghost use Rattle.std.specs.Arc.{arc_value};
-ghost use Rattle.commands.specs.Output.{EndsByFault, TellsFault};
+ghost use Rattle.commands.specs.Output.{EndsByFault};
 ghost use Rattle.commands.specs.Simulate.Limits.{IsLogLimit};
 ghost use Rattle.shard_checker.specs.CheckedView.{checked_view};
 ghost use Rattle.cli.specs.Connections.{StayServed, served_at};
 ghost use Rattle.cli.specs.Incoming.{coming};
-ghost use Rattle.cli.specs.Outcomes.{EndsKeeping};
-ghost use Rattle.cli.specs.Published as spec;
 ghost use Rattle.cli.specs.Published.{Serves, callers_at};
 ghost use Rattle.cli.specs.Requests.{AcceptsInput, AnswersReader};
-ghost use Rattle.cli.specs.Talks.{HasAnsweredAll, IsCutOff};
+ghost use Rattle.cli.specs.Talks.{HasAnswered, IsCutOff};
 ghost use Rattle.cli.specs.declared.requests.Request.TheVariants.{Publish};
 
 mod callers;
@@ -39,7 +37,6 @@ use crate::publish::closing::close_session;
 use crate::publish::door::{Door, Doors, open_doors};
 use crate::publish::hall::Hall;
 use crate::publish::incoming::LineReader;
-use crate::publish::notices::tell_unread;
 use crate::publish::parting::see_off;
 use crate::publish::parts::read_part;
 use crate::publish::places::{Berth, attend_all, free_berths, served_at};
@@ -57,36 +54,27 @@ use std::sync::{Arc, Wait};
 use std::thread::{Threads, join_mut};
 use std::time::Clock;
 
-/// Answers the lines of the reader. Returns whether a read failed, which standard error reports.
-fn answer_input<'a, P: Publishing, I: Reader, W: Writer, R: Wait + Clock + Eprint>(
+/// Answers the lines of the reader.
+fn answer_input<'a, P: Publishing, I: Reader, W: Writer, R: Wait + Clock>(
     rt: &R,
     publisher: &Publisher<P>,
-    hall: &Hall,
     seat: &mut Seat<P>,
     lines: &mut LineReader<I>,
     writer: &mut W,
-) -> Result<bool, Failure<'a>>
-    ensures ok { IfOk result (HasAnsweredAll P.checked P.limit None I.may_fail (coming I.remaining lines.old)
+) -> Result<(), Failure<'a>>
+    ensures ok { OnOk result (HasAnswered P.checked P.limit None I.may_fail (coming I.remaining lines.old)
         (coming I.remaining lines.new) (W.contents writer.old) (W.contents writer.new) seat.old seat.new) }
     ensures err { IfErr result (IsCutOff P.checked P.limit None (coming I.remaining lines.old)
         (coming I.remaining lines.new) (W.contents writer.old) (W.contents writer.new) seat.old seat.new) }
-    ensures failed { TellsFault (W.has_failed writer.old) (W.has_failed writer.new) result }
 {
-    let alloc = publisher.allocator();
-    match answer_lines(rt, alloc, publisher, seat, lines, writer) {
-        Ok(ending) => {
-            let fails = ending.is_failed();
-            if fails {
-                tell_unread(rt, alloc, hall.log());
-            }
-            Ok(fails)
-        }
+    match answer_lines(rt, publisher.allocator(), publisher, seat, lines, writer) {
+        Ok(_) => Ok(()),
         Err(failure) => Err(failure),
     }
 }
 
 /// Answers the lines of callers if commands come from callers, and otherwise those of the reader, once a place waits
-/// for clients. Returns whether a read of the reader failed.
+/// for clients.
 ///
 /// # Errors
 ///
@@ -100,26 +88,23 @@ fn answer_attended<'a, P: Publishing, I: Reader, W: Writer, R: Wait + Clock + Ep
     seat: &mut Seat<P>,
     lines: &mut LineReader<I>,
     writer: &mut W,
-) -> Result<bool, Failure<'a>>
-    ensures ok { IfOk result (HasAnsweredAll P.checked P.limit (callers_at callers.now) I.may_fail
+) -> Result<(), Failure<'a>>
+    ensures ok { OnOk result (HasAnswered P.checked P.limit (callers_at callers.now) I.may_fail
         (coming I.remaining lines.old) (coming I.remaining lines.new) (W.contents writer.old) (W.contents writer.new)
         seat.old seat.new) }
     ensures err { IfErr result (IsCutOff P.checked P.limit (callers_at callers.now) (coming I.remaining lines.old)
         (coming I.remaining lines.new) (W.contents writer.old) (W.contents writer.new) seat.old seat.new) }
-    ensures failed { TellsFault (W.has_failed writer.old) (W.has_failed writer.new) result }
 {
     if !hall.is_attended(rt) {
         return Err(Failure::OutOfMemory);
     }
-    let Some(door) = callers else {
-        return answer_input(rt, publisher, hall, seat, lines, writer);
-    };
-    answer_callers(rt, publisher, hall, seat, &door.listener)?;
-    Ok(false)
+    match callers {
+        Some(door) => answer_callers(rt, publisher, hall, seat, &door.listener),
+        None => answer_input(rt, publisher, seat, lines, writer),
+    }
 }
 
-/// Answers the lines of the session, and disconnects the clients when there are no more. Returns whether a read of the
-/// reader failed.
+/// Answers the lines of the session, and disconnects the clients when there are no more.
 fn conduct<
     'a,
     P: Publishing,
@@ -134,14 +119,13 @@ fn conduct<
     seat: &mut Seat<P>,
     lines: &mut LineReader<I>,
     writer: &mut W,
-) -> Result<bool, Failure<'a>>
-    ensures ok { IfOk result (HasAnsweredAll P.checked P.limit (callers_at doors.now.callers) I.may_fail
+) -> Result<(), Failure<'a>>
+    ensures ok { OnOk result (HasAnswered P.checked P.limit (callers_at doors.now.callers) I.may_fail
         (coming I.remaining lines.old) (coming I.remaining lines.new) (W.contents writer.old) (W.contents writer.new)
         seat.old seat.new) }
     ensures err { IfErr result (IsCutOff P.checked P.limit (callers_at doors.now.callers)
         (coming I.remaining lines.old) (coming I.remaining lines.new) (W.contents writer.old) (W.contents writer.new)
         seat.old seat.new) }
-    ensures failed { TellsFault (W.has_failed writer.old) (W.has_failed writer.new) result }
 {
     let answered = answer_attended(rt, publisher, hall, &doors.callers, seat, lines, writer);
     publisher.finish(rt);
@@ -150,8 +134,7 @@ fn conduct<
     answered
 }
 
-/// Answers the lines of the session in this thread, while clients are served in others. Returns whether a read of the
-/// reader failed.
+/// Answers the lines of the session in this thread, while clients are served in others.
 fn run_both<
     'a,
     'b,
@@ -168,14 +151,13 @@ fn run_both<
     seat: &'a mut Seat<P>,
     lines: &'a mut LineReader<I>,
     writer: &'a mut W,
-) -> Result<bool, Failure<'b>>
-    ensures ok { IfOk result (HasAnsweredAll P.checked P.limit (callers_at doors.now.callers) I.may_fail
+) -> Result<(), Failure<'b>>
+    ensures ok { OnOk result (HasAnswered P.checked P.limit (callers_at doors.now.callers) I.may_fail
         (coming I.remaining lines.old) (coming I.remaining lines.new) (W.contents writer.old) (W.contents writer.new)
         seat.old seat.new) }
     ensures err { IfErr result (IsCutOff P.checked P.limit (callers_at doors.now.callers)
         (coming I.remaining lines.old) (coming I.remaining lines.new) (W.contents writer.old) (W.contents writer.new)
         seat.old seat.new) }
-    ensures failed { TellsFault (W.has_failed writer.old) (W.has_failed writer.new) result }
     ensures served { StayServed P.checked (served_at berths.old) (served_at berths.new) }
 {
     let hall = Hall::new(feed);
@@ -186,32 +168,19 @@ fn run_both<
         &mut ||
             ensures { StayServed P.checked (served_at berths.entry.now) (served_at berths.exit.now) }
         { attend_all(rt, publisher, shared, listener, berths) },
-        &mut || -> Result<bool, Failure<'_>>
-            ensures ok { IfOk result (HasAnsweredAll P.checked P.limit (callers_at doors.entry.now.callers) I.may_fail
+        &mut || -> Result<(), Failure<'_>>
+            ensures ok { OnOk result (HasAnswered P.checked P.limit (callers_at doors.entry.now.callers) I.may_fail
                 (coming I.remaining lines.entry.now) (coming I.remaining lines.exit.now) (W.contents writer.entry.now)
                 (W.contents writer.exit.now) seat.entry.now seat.exit.now) }
             ensures err { IfErr result (IsCutOff P.checked P.limit (callers_at doors.entry.now.callers)
                 (coming I.remaining lines.entry.now) (coming I.remaining lines.exit.now) (W.contents writer.entry.now)
                 (W.contents writer.exit.now) seat.entry.now seat.exit.now) }
-            ensures failed { TellsFault (W.has_failed writer.entry.now) (W.has_failed writer.exit.now) result }
         { conduct(rt, publisher, shared, doors, seat, lines, writer) },
     );
     answered
 }
 
-/// The status of a session whose last line has this status. If a read failed, it is `Input`, unless the line is a
-/// refusal.
-fn status_after(fails: bool, status: Status) -> Status
-    ensures { result ≡ spec.status_after fails status }
-{
-    match status {
-        Status::Done if fails => Status::Input,
-        _ => status,
-    }
-}
-
 /// Serves the clients of a publisher while a session makes commits, and closes the publisher when all have ended.
-#[tactic(auto, using(crate::proofs::Keeping::untouched))]
 fn publish<
     'a,
     P: Publishing + Sync,
@@ -241,9 +210,8 @@ fn publish<
     requires checked { checked_view (arc_value checked) ≡ P.checked }
     requires limit { feed.limit ≡ P.limit }
     requires within { IsLogLimit feed.limit }
-    ensures serves { Serves feed.entry P.checked (coming I.remaining lines.old) (coming I.remaining lines.new) I.may_fail
+    ensures { Serves feed.entry P.checked (coming I.remaining lines.old) (coming I.remaining lines.new) I.may_fail
         (W.contents writer.old) (W.contents writer.new) result }
-    ensures reported { EndsKeeping (W.has_failed writer.old) (W.has_failed writer.new) result }
 {
     let mut berths = free_berths(alloc, checked.catalog().subscriptions.len())?;
     let (publisher, mut seats) = Publisher::<P>::new(alloc, opening, checked, feed.limit)?;
@@ -261,16 +229,15 @@ fn publish<
         lines,
         writer,
     );
-    let fails = answered?;
+    answered?;
     let served = served_at(alloc, berths)?;
-    let status = close_session(alloc, publisher, seats, seat, served, writer)?;
-    Ok(status_after(fails, status))
+    close_session(alloc, publisher, seats, seat, served, writer)
 }
 
 /// Publishes what a reader gives: a catalog, a line `%%`, the texts of the certificates of its tables, one per line, a
 /// line `%%`, and then commands, one step per line, each of which is executed and answered when it has arrived. Sockets
 /// are used only if the sharding is accepted.
-#[tactic(auto, using(crate::proofs::Causes::quiet, crate::proofs::Keeping::untouched))]
+#[tactic(auto, using(crate::proofs::Causes::quiet))]
 pub(crate) fn publish_input<
     'a,
     I: Reader + Drop,
@@ -288,7 +255,6 @@ pub(crate) fn publish_input<
         (W.contents writer.new) result }
     ensures failed { AcceptsInput (Publish feed.entry) (I.remaining input) ⊎ EndsByFault (W.has_failed writer.old)
         (W.has_failed writer.new) result }
-    ensures reported { EndsKeeping (W.has_failed writer.old) (W.has_failed writer.new) result }
 {
     let Ok(mut lines) = LineReader::new(alloc, input) else {
         return Err(Failure::OutOfMemory);

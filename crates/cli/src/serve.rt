@@ -5,7 +5,6 @@ ghost use Rattle.std.specs.Arc.{arc_value};
 ghost use Rattle.shard_checker.specs.CheckedView.{checked_view};
 ghost use Rattle.commands.specs.Output.{EndsByFault};
 ghost use Rattle.commands.specs.Simulate.Limits.{IsLogLimit};
-ghost use Rattle.cli.specs.Outcomes.{EndsKeeping};
 ghost use Rattle.cli.specs.Scripts.{list_view};
 ghost use Rattle.cli.specs.Serving.{EndsService, IsAccepted};
 ghost use Rattle.cli.specs.Telling.{WritesServeLines, service_of};
@@ -31,7 +30,6 @@ use std::time::Clock;
 use table_changes::Command;
 
 /// Serves the connections of a publisher while a session commits the lists, and closes it when all have ended.
-#[tactic(auto, using(crate::proofs::Keeping::untouched))]
 fn publish<
     'a,
     P: Publishing + Sync,
@@ -55,9 +53,8 @@ fn publish<
     requires limit { service.limit ≡ P.limit }
     requires within { IsLogLimit service.limit }
     requires few { length lists.items ≤ 100000 }
-    ensures writes { WritesServeLines (service_of service P.checked (map list_view lists.items)) (W.contents writer.old)
+    ensures { WritesServeLines (service_of service P.checked (map list_view lists.items)) (W.contents writer.old)
         (W.contents writer.new) result }
-    ensures reported { EndsKeeping (W.has_failed writer.old) (W.has_failed writer.new) result }
 {
     let subscriptions = checked.catalog().subscriptions.len();
     let mut places = open_places(alloc, service.connections.unwrap_or(subscriptions))?;
@@ -76,7 +73,7 @@ fn publish<
 /// Serves an input: a catalog, the texts of the certificates of its tables, one per line, and a script, with lines `%%`
 /// between them. The faults of the input are those of `simulate`, in its order. A step that is not COMMIT is a fault of
 /// the script. Sockets are used only if the sharding is accepted.
-#[tactic(auto, using(crate::proofs::Causes::quiet, crate::proofs::Keeping::untouched))]
+#[tactic(auto, using(crate::proofs::Causes::quiet))]
 pub fn serve_input<
     'a,
     W: Writer,
@@ -91,7 +88,6 @@ pub fn serve_input<
     requires { IsLogLimit service.limit }
     ensures ends { EndsService service input.now (W.contents writer.old) (W.contents writer.new) result }
     ensures failed { IsAccepted input.now ⊎ EndsByFault (W.has_failed writer.old) (W.has_failed writer.new) result }
-    ensures reported { EndsKeeping (W.has_failed writer.old) (W.has_failed writer.new) result }
 {
     let (text, certificates, script) = three_parts(input).ok_or(InputFault::Parts)?;
     let catalog = read_catalog(alloc, text)?;

@@ -66,9 +66,8 @@ Exit status:
   0  the input and all connections have ended, and the line closed is printed
   1  the sharding is refused; or the log differs from what was answered and sent, and the line close says how
   2  usage error
-  3  the catalog or the certificates cannot be read, and a line says why; or a read of the commands failed, and the
-     line closed is printed
-  4  cannot write the output or the file of the ports, or use a port
+  3  the catalog or the certificates cannot be read, and a line says why
+  4  cannot write the output or use a port
   5  out of memory";
 
 fn eval_command<'a>(alloc: Global) -> Result<Command<'a>, AllocError>

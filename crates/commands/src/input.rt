@@ -10,7 +10,7 @@ use std::io::{ErrorKind, Read};
 pub const MAX_INPUT: usize = 16_777_216;
 
 /// An input: a reader that is read at most 16,777,217 times, once for each byte of the longest text and once for its
-/// end, unless the reads are counted anew. Its errors are `Interrupted`, after which it may be read again, and `Other`.
+/// end. Its errors are `Interrupted`, after which it may be read again, and `Other`.
 #[derive(Drop)]
 pub struct Input<R> {
     reader: R,
@@ -63,19 +63,11 @@ impl<R: Read> Read for Input<R> {
 }
 
 impl<R: Read> Reader for Input<R> {
-    ghost use Rattle.std.specs.Prelude.{◌≡◌, true};
-    ghost use Rattle.commands.specs.Inputs.{reader_of, reads_of};
+    ghost use Rattle.std.specs.Prelude.{true};
 
     ghost may_fail = { true };
 
     fn read_piece(&mut self, piece: &mut [u8]) -> io::Result<usize> {
         self.read(piece)
-    }
-
-    fn count_anew(&mut self)
-        ensures bytes { R.remaining (reader_of self.new) ≡ R.remaining (reader_of self.old) }
-        ensures count { reads_of self.new ≡ 16777217 }
-    {
-        self.reads_left = MAX_INPUT + 1;
     }
 }

@@ -5,8 +5,7 @@ ghost use Rattle.std.specs.Prelude.{Some};
 use std::io;
 use std::io::Read;
 
-/// A reader whose type says whether reads may fail (`may_fail`). Those of bytes in memory do not. If the number of reads
-/// is limited, they can be counted anew.
+/// A reader whose type says whether reads may fail (`may_fail`). Those of bytes in memory do not.
 pub trait Reader: Read {
     ghost use Rattle.std.specs.Prelude.{◌≡◌, Bool, true, length, OnErr};
     ghost use Rattle.std.specs.Io.{ReadsAtMost};
@@ -19,10 +18,6 @@ pub trait Reader: Read {
         ensures bound { ReadsAtMost result piece.new }
         ensures bytes { ReadConsumes (Self.remaining self.old) (Self.remaining self.new) result piece.new }
         ensures fails { OnErr result (may_fail ≡ true) };
-
-    /// Counts the reads anew, if their number is limited.
-    fn count_anew(&mut self)
-        ensures bytes { Self.remaining self.new ≡ Self.remaining self.old };
 }
 
 /// No read of bytes in memory fails.
@@ -34,6 +29,4 @@ impl Reader for &[u8] {
     fn read_piece(&mut self, piece: &mut [u8]) -> io::Result<usize> {
         self.read(piece)
     }
-
-    fn count_anew(&mut self) {}
 }

@@ -26,8 +26,7 @@ def explained(words: list[str], source: Source, status: int, output: str) -> lis
     lines = output.split("\n")[:-1]
     last = lines[-1] if lines else ""
     if status == 3:
-        # Of a read of commands that failed, the program itself reports.
-        return [] if last.startswith("closed ") else [of_input(subcommand, source, last)]
+        return [of_input(subcommand, source, last)]
     if status == 4:
         return of_failure(words, lines)
     if status == 5:

@@ -8,7 +8,7 @@ from served.program import NO_PORT, PORTS, free_port
 from served.shardings import HALVES_CATALOG
 from tally import Tally
 
-from .running import MOST_CALLS, NOTICE, READS, WRITES, Answer, Failure, run
+from .running import MOST_CALLS, READS, WRITES, Answer, Failure, run
 
 # Lines, each with its answer.
 TALK = [
@@ -20,9 +20,6 @@ TALK = [
 ]
 HEAD = f"{HALVES_CATALOG}%%\n{C}%%\n"
 TEXT = "\n".join([HEAD.removesuffix("\n"), *(line for line, _ in TALK), ""]).encode()
-
-# The status of a run whose commands cannot all be read.
-UNREAD = 3
 
 # The greatest number of bytes that a read returns and that a write accepts.
 MOST = {READS: 40, WRITES: 7}
@@ -45,25 +42,23 @@ def check_publishes(tally: Tally, library: str) -> Counter[int]:
     return met
 
 
-def answer_to(given: bytes, port: int, status: int = 0) -> Answer:
-    """Returns the answer of a run whose input ends after these bytes, or cannot be read any further; with this status,
-    if it listened."""
+def answer_to(given: bytes, port: int) -> Answer:
+    """Returns the answer of a run whose input ends after these bytes, or cannot be read any further."""
     lines = given.split(b"\n")[:-1]
     if lines.count(b"%%") < 2:
         return Answer(3, "input\n")
     answers = [answer for _, answer in TALK[:len(lines) - HEAD.count("\n")]]
     commits = sum(answer.startswith("commit") for answer in answers)
-    lines_written = [f"listening {port}", *answers, f"closed {commits} 0"]
-    return Answer(status, "".join(f"{line}\n" for line in lines_written), NOTICE if status == UNREAD else "")
+    return Answer(0, "".join(f"{line}\n" for line in [f"listening {port}", *answers, f"closed {commits} 0"]))
 
 
 def is_right(failure: Failure, port: int, found: Answer, has_failed: bool) -> bool:
-    """Returns whether a run is right. A failed read ends the input, with a status of its own."""
+    """Returns whether a run is right. A failed read ends the input."""
     whole = answer_to(TEXT, port)
     if not has_failed or failure.error == errno.EINTR:
         return found == whole
     if failure.file == READS:
-        return found == answer_to(TEXT[:failure.most * (failure.call - 1)], port, UNREAD)
+        return found == answer_to(TEXT[:failure.most * (failure.call - 1)], port)
     return found.status == NO_PORT and whole.output.startswith(found.output) and found.output != whole.output
 
 
@@ -73,6 +68,6 @@ def publish(failure: Failure, library: str) -> tuple[int, Answer, bool | None]:
     for _ in range(PORTS):
         port = free_port()
         found, has_failed = run(("publish", "--port", str(port)), TEXT, failure.variables(library))
-        if has_failed or (found.status, found.output) != (NO_PORT, ""):
+        if has_failed or found != Answer(NO_PORT, ""):
             break
     return port, found, has_failed

@@ -16,17 +16,13 @@ MOST_CALLS = 2_000
 
 READS, WRITES = 0, 1
 
-# What `publish` reports of a read that failed after the certificates.
-NOTICE = "a read of the commands failed; no further commands are executed\n"
-
 
 @dataclass(frozen=True)
 class Answer:
-    """The status of a run, or None if it took too long, its output, and what it reported on standard error."""
+    """The status of a run, or None if it took too long, and its output."""
 
     status: int | None
     output: str
-    report: str = ""
 
 
 @dataclass(frozen=True)
@@ -56,11 +52,8 @@ def run(words: tuple[str, ...], text: bytes, variables: dict[str, str]) -> tuple
             env=os.environ | variables)
     except subprocess.TimeoutExpired:
         return Answer(None, ""), None
-    # The library's line comes last. Without the library there is none.
-    lines = ended.stderr.decode(errors="backslashreplace").splitlines(keepends=True)
-    has_failed = {"failed\n": True, "not failed\n": False}.get(lines[-1]) if lines else None
-    report = "".join(lines[:-1] if has_failed is not None else lines)
-    return Answer(ended.returncode, ended.stdout.decode(errors="backslashreplace"), report), has_failed
+    told = {b"failed\n": True, b"not failed\n": False}
+    return Answer(ended.returncode, ended.stdout.decode(errors="backslashreplace")), told.get(ended.stderr)
 
 
 def failed_runs(

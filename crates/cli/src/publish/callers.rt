@@ -7,7 +7,7 @@ ghost use Rattle.cli.specs.Talks.{AreHeard, HasTalked};
 use crate::publish::hall::Hall;
 use crate::publish::incoming::LineReader;
 use crate::publish::places::accepted_or_waited;
-use crate::publish::session::{Ending, answer_lines};
+use crate::publish::session::answer_lines;
 use crate::publish::streams::{PatientWrite, Writes};
 use commands::{Failure, Printer, Reader};
 use senders::{Publisher, Publishing, Seat};
@@ -38,8 +38,6 @@ impl Reader for Call<'_> {
     fn read_piece(&mut self, piece: &mut [u8]) -> io::Result<usize> {
         self.read(piece)
     }
-
-    fn count_anew(&mut self) {}
 }
 
 /// Answers the lines of a caller, until it closes its connection, takes no answer for too long, or sends `QUIT;`.
@@ -61,7 +59,7 @@ fn answer_caller<'a, P: Publishing, R: Wait + Clock>(
     let writes = Writes::new();
     let mut writer = Printer::new(PatientWrite::new(hall, stream, &writes));
     match answer_lines(rt, alloc, publisher, seat, &mut lines, &mut writer) {
-        Ok(ending) => Ok(ending == Ending::Quit),
+        Ok(quits) => Ok(quits),
         Err(Failure::Output) => Ok(false),
         Err(_) => Err(Failure::OutOfMemory),
     }

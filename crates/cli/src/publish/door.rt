@@ -4,8 +4,7 @@ ghost use Rattle.std.specs.Prelude.{◌≡◌, true, IfErr, IfOk, OnOk};
 ghost use Rattle.std.specs.Io.KnownBytes.{Appends};
 ghost use Rattle.std.specs.Option.{option_map};
 ghost use Rattle.std.specs.String.{string_bytes};
-ghost use Rattle.commands.specs.Output.{StopsText, TellsFault, text_of};
-ghost use Rattle.cli.specs.Outcomes.{TellsKeeping};
+ghost use Rattle.commands.specs.Output.{StopsText, text_of};
 ghost use Rattle.cli.specs.Published.{AreCallersAt, IsPortFor, Opens, StopsTelling, callers_at};
 ghost use Rattle.cli.specs.Telling.{IsStop, first_lines};
 
@@ -156,7 +155,6 @@ fn say_ports<'a, W: Writer>(
     ensures stopped { IfErr result (StopsText (text_of (first_lines port callers)) (W.contents writer.old)
         (W.contents writer.new)) }
     ensures flushed { OnOk result (W.is_flushed writer.new ≡ true) }
-    ensures failed { TellsFault (W.has_failed writer.old) (W.has_failed writer.new) result }
 {
     let text = ports_text(alloc, port, callers)?;
     tell(text.as_str(), writer)
@@ -168,7 +166,6 @@ fn say_ports<'a, W: Writer>(
 ///
 /// `Output` if a port cannot be used, or the lines or the file cannot be written; standard error reports why.
 /// `OutOfMemory`.
-#[tactic(auto, using(crate::proofs::Keeping::untouched_telling))]
 pub(crate) fn open_doors<
     'a,
     W: Writer,
@@ -178,7 +175,6 @@ pub(crate) fn open_doors<
         (W.contents writer.old) (W.contents writer.new)) }
     ensures stopped { IfErr result (StopsTelling feed.entry (W.contents writer.old) (W.contents writer.new)) }
     ensures flushed { OnOk result (W.is_flushed writer.new ≡ true) }
-    ensures reported { TellsKeeping (W.has_failed writer.old) (W.has_failed writer.new) result }
 {
     let doors = find_doors(rt, alloc, feed)?;
     let callers = callers_port(&doors);

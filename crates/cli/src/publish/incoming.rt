@@ -76,8 +76,7 @@ impl<I: Reader> LineReader<I> {
         }
     }
 
-    /// Reads the next bytes, when all that was read is in lines. Returns whether there are any. A session may take any
-    /// number of reads, so they are counted anew.
+    /// Reads the next bytes, when all that was read is in lines. Returns whether there are any.
     fn read_more(&mut self) -> io::Result<bool>
         requires { ahead_of self.old ≡ [] }
         ensures kept { Keeps (coming I.remaining self.old) (coming I.remaining self.new) }
@@ -87,7 +86,6 @@ impl<I: Reader> LineReader<I> {
         self.start = 0;
         self.end = 0;
         self.end = self.reader.read_piece(self.piece.as_mut_slice())?;
-        self.reader.count_anew();
         Ok(0 < self.end)
     }
 

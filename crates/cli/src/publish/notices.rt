@@ -134,12 +134,6 @@ pub(crate) fn tell_port<R: Clock + Eprint>(
     }
 }
 
-/// Reports that a read of the commands failed.
-pub(crate) fn tell_unread<R: Clock + Eprint>(rt: &R, alloc: Global, log: LogFormat) {
-    let fault = "a read of the commands failed; no further commands are executed";
-    tell_amiss(rt, alloc, log, fault);
-}
-
 /// Reports that the file of the ports cannot be written.
 pub(crate) fn tell_file<R: Clock + Eprint>(
     rt: &R,

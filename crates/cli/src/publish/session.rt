@@ -10,10 +10,8 @@ ghost use Rattle.commands.specs.Failures.{fault_line};
 ghost use Rattle.commands.specs.Output.{text_of};
 ghost use Rattle.cli.specs.Incoming.{coming};
 ghost use Rattle.cli.specs.Talks as spec;
-ghost use Rattle.cli.specs.Talks.{Answers, HasAnsweredAll, HasGone, HasQuit, IsCutOff, Replies, StopsNext, Tells};
-ghost use Rattle.cli.specs.declared.publish.session.Ending.TheVariants.{Quit};
+ghost use Rattle.cli.specs.Talks.{Answers, HasAnswered, HasGone, HasQuit, IsCutOff, Replies, StopsNext, Tells};
 ghost use Rattle.cli.specs.declared.publish.session.Turn.TheVariants as turns;
-ghost use Rattle.commands.specs.Output.{TellsFault};
 
 use crate::publish::incoming::LineReader;
 use crate::publish::telling::tell;
@@ -160,40 +158,19 @@ fn is_quit(line: &[u8]) -> bool
     line == "QUIT;".as_bytes()
 }
 
-/// Why no further line is answered.
-#[derive(Clone, Copy, Debug, PartialEq, Eq)]
-pub(crate) enum Ending {
-    /// The last line is `QUIT;`.
-    Quit,
-    /// There is no further line.
-    Over,
-    /// A read failed.
-    Failed,
-}
-
-impl Ending {
-    ghost use Rattle.std.specs.Prelude.{◌≡◌};
-    ghost use Rattle.cli.specs.Talks as spec;
-
-    /// Whether a read failed.
-    pub(crate) fn is_failed(self) -> bool
-        ensures { result ≡ spec.is_failed self }
-    {
-        matches!(self, Ending::Failed)
-    }
-}
-
 /// What was read.
 #[derive(Clone, Copy, Debug, PartialEq, Eq)]
 pub(crate) enum Turn {
     /// A line, which was answered.
     Line,
-    /// No line that is answered.
-    Ended(Ending),
+    /// `QUIT;`
+    Quit,
+    /// No further line.
+    Over,
 }
 
-/// Reads the next line, and answers it at once unless it is `QUIT;`.
-#[tactic(auto, using(crate::proofs::Talking::may_fail_here))]
+/// Reads the next line, and answers it at once unless it is `QUIT;`. A reader that fails has no further line.
+#[tactic(auto, using(crate::proofs::Talking::over_at_end, crate::proofs::Talking::over_failed))]
 fn answer_next<'a, P: Publishing, I: Reader, W: Writer, R: Wait + Clock>(
     rt: &R,
     alloc: Global,
@@ -208,23 +185,21 @@ fn answer_next<'a, P: Publishing, I: Reader, W: Writer, R: Wait + Clock>(
     ensures err { IfErr result (StopsNext P.checked P.limit (coming I.remaining lines.old)
         (coming I.remaining lines.new) (W.contents writer.old) (W.contents writer.new) seat.old seat.new) }
     ensures flushed { IfOk result (λ turn. turn ≡ turns.Line → W.is_flushed writer.new ≡ true) }
-    ensures failed { TellsFault (W.has_failed writer.old) (W.has_failed writer.new) result }
 {
     match lines.next_line(rt, line) {
         Ok(true) => {}
-        Ok(false) => return Ok(Turn::Ended(Ending::Over)),
-        Err(Failure::Input(_)) => return Ok(Turn::Ended(Ending::Failed)),
+        Ok(false) | Err(Failure::Input(_)) => return Ok(Turn::Over),
         Err(_) => return Err(Failure::OutOfMemory),
     }
     if is_quit(line.as_slice()) {
-        return Ok(Turn::Ended(Ending::Quit));
+        return Ok(Turn::Quit);
     }
     let text = answer(rt, alloc, publisher, seat, line.as_slice())?;
     tell(text.as_str(), writer)?;
     Ok(Turn::Line)
 }
 
-/// Answers each line as it arrives, until there are no more, one is `QUIT;`, or a read fails.
+/// Answers each line as it arrives, until there are no more or one is `QUIT;`. Returns whether one was.
 pub(crate) fn answer_lines<'a, P: Publishing, I: Reader, W: Writer, R: Wait + Clock>(
     rt: &R,
     alloc: Global,
@@ -232,20 +207,19 @@ pub(crate) fn answer_lines<'a, P: Publishing, I: Reader, W: Writer, R: Wait + Cl
     seat: &mut Seat<P>,
     lines: &mut LineReader<I>,
     writer: &mut W,
-) -> Result<Ending, Failure<'a>>
-    ensures ok { IfOk result (λ ending. HasAnsweredAll P.checked P.limit None I.may_fail (coming I.remaining lines.old)
-        (coming I.remaining lines.new) (W.contents writer.old) (W.contents writer.new) seat.old seat.new
-        (spec.is_failed ending)) }
+) -> Result<bool, Failure<'a>>
+    ensures ok { OnOk result (HasAnswered P.checked P.limit None I.may_fail (coming I.remaining lines.old)
+        (coming I.remaining lines.new) (W.contents writer.old) (W.contents writer.new) seat.old seat.new) }
     ensures err { IfErr result (IsCutOff P.checked P.limit None (coming I.remaining lines.old)
         (coming I.remaining lines.new) (W.contents writer.old) (W.contents writer.new) seat.old seat.new) }
-    ensures quit { IfOk result (λ ending. ending ≡ Quit → HasQuit P.checked P.limit (coming I.remaining lines.new)) }
-    ensures failed { TellsFault (W.has_failed writer.old) (W.has_failed writer.new) result }
+    ensures quit { IfOk result (λ quits. quits ≡ true → HasQuit P.checked P.limit (coming I.remaining lines.new)) }
 {
     let mut line = Vec::new(alloc);
     for _ in rt.forever() {
         match answer_next(rt, alloc, publisher, seat, &mut line, lines, writer)? {
             Turn::Line => {}
-            Turn::Ended(ending) => return Ok(ending),
+            Turn::Quit => return Ok(true),
+            Turn::Over => return Ok(false),
         }
     }
     unreachable!()

@@ -2,7 +2,7 @@
 
 ghost use Rattle.std.specs.Prelude.{◌≡◌, true, IfErr, OnOk};
 ghost use Rattle.std.specs.Io.KnownBytes.{Appends};
-ghost use Rattle.commands.specs.Output.{StopsText, TellsFault};
+ghost use Rattle.commands.specs.Output.{StopsText};
 
 use commands::{Failure, Writer, write_text};
 
@@ -15,7 +15,6 @@ pub(crate) fn tell<'a, W: Writer>(text: &str, writer: &mut W) -> Result<(), Fail
     ensures written { OnOk result (Appends (W.contents writer.old) (W.contents writer.new) text.now) }
     ensures stopped { IfErr result (StopsText text.now (W.contents writer.old) (W.contents writer.new)) }
     ensures flushed { OnOk result (W.is_flushed writer.new ≡ true) }
-    ensures failed { TellsFault (W.has_failed writer.old) (W.has_failed writer.new) result }
 {
     write_text(text, writer)?;
     match writer.flush() {

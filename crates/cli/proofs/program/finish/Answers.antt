@@ -1,6 +1,5 @@
 use Rattle.std.proofs.Common.{refl}
 use Rattle.cli.proofs.Exits.{four_says, ran, ran_at_once, ran_unflushed, tag_says}
-use Rattle.cli.proofs.Keeping.{tag_keeps}
 use Rattle.cli.specs.Runs.{asked_of_words}
 use Rattle.cli.proofs.program.finish.Goals as goal
 
@@ -34,17 +33,3 @@ returns-in-Ok-clause-failed g c = λ old ends.
 pub returns-in-Err-clause-failed : goal.returns-in-Err-clause-failed
 returns-in-Err-clause-failed g c = λ old ends.
     four_says _ old (g.W.Writer.has_failed c.flush.new.self) refl c.in-Err.ensures.failed
-
-pub returns-then-eq-clause-reported : goal.returns-then-eq-clause-reported
-returns-then-eq-clause-reported g c = λ old ends other.
-    tag_keeps c.outcome-status.result _ old (g.W.Writer.has_failed c.outcome-status.new.writer)
-    (g.W.Writer.has_failed c.outcome-status.new.writer) refl refl (c.outcome-status.ensures.reported old ends) other
-
-pub returns-in-Ok-clause-reported : goal.returns-in-Ok-clause-reported
-returns-in-Ok-clause-reported g c = λ old ends other.
-    tag_keeps c.outcome-status.result _ old (g.W.Writer.has_failed c.outcome-status.new.writer)
-    (g.W.Writer.has_failed c.flush.new.self) refl c.in-Ok.ensures.failed (c.outcome-status.ensures.reported old ends)
-    other
-
-pub returns-in-Err-clause-reported : goal.returns-in-Err-clause-reported
-returns-in-Err-clause-reported g c = λ old ends other. absurd (other refl)

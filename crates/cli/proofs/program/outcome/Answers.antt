@@ -1,5 +1,4 @@
 use Rattle.cli.proofs.Exits.{reported, whole_outcome}
-use Rattle.cli.proofs.Keeping as keeping
 use Rattle.cli.specs.Runs.{asked_of_words}
 use Rattle.cli.proofs.program.outcome.Goals as goal
 
@@ -19,13 +18,3 @@ returns-in-Ok-clause-failed g c = λ old ends. rw c.in-Ok.is at ends
 
 pub returns-in-Err-clause-failed : goal.returns-in-Err-clause-failed
 returns-in-Err-clause-failed g c = λ old ends. c.report.ensures.failed old (rw c.in-Err.is at ends)
-
-pub returns-in-Ok-clause-reported : goal.returns-in-Ok-clause-reported
-returns-in-Ok-clause-reported g c = λ old ends. rw c.in-Ok.is at ends
-
-pub returns-in-Err-clause-reported : goal.returns-in-Err-clause-reported
-returns-in-Err-clause-reported g c = λ old ends.
-    keeping.reported c.in-Err.failure (g.W.Writer.has_failed c.args.writer.now)
-    (g.W.Writer.has_failed c.report.new.writer) (g.W.Writer.contents c.args.writer.now)
-    (g.W.Writer.contents c.report.new.writer) c.report.result c.report.ensures.failed c.report.ensures.written old
-    (rw c.in-Err.is at ends)

@@ -1,4 +1,4 @@
-use Rattle.std.proofs.Common.{◌∙◌, inr, map, rules, true}
+use Rattle.std.proofs.Common.{inr, map, rules, true}
 use Rattle.cli.proofs.Answering.{served_ends}
 use Rattle.cli.proofs.Causes.{served_says}
 use Rattle.cli.proofs.RequestLemmas.{asked_can}
@@ -34,12 +34,3 @@ returns-in-Serve-clause-failed g c =
     (g.W.Writer.has_failed c.answer_words.new.writer) (g.W.Writer.has_failed c.serve_reader-ending.new.writer)
     (g.W.Writer.has_failed c.finish-in-Serve.new.writer) c.finish-in-Serve.result c.in-Serve.ensures.course
     c.in-Serve.ensures.failed c.serve_reader-ending.ensures.failed c.finish-in-Serve.ensures.failed
-
-pub returns-in-Ended-clause-reported : goal.returns-in-Ended-clause-reported
-returns-in-Ended-clause-reported g c =
-    (c.finish.ensures.failed (g.W.Writer.has_failed c.args.writer.now) c.in-Ended.ensures.failed).1
-
-pub returns-in-Serve-clause-reported : goal.returns-in-Serve-clause-reported
-returns-in-Serve-clause-reported g c = λ other.
-    c.finish-in-Serve.ensures.reported (g.W.Writer.has_failed c.answer_words.new.writer)
-    c.serve_reader-ending.ensures.reported other ∙ c.in-Serve.ensures.failed

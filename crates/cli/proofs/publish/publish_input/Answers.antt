@@ -16,7 +16,6 @@ use Rattle.commands.specs.Parts.{lines_of}
 use Rattle.commands.specs.Refusals.{refused_line}
 use Rattle.commands.specs.Verdicts.{IsFirstRefusal}
 use Rattle.cli.proofs.Heads.{accepted, catalog_returned, certificate_returned, first_returned, second_returned, served, sharding_refused}
-use Rattle.cli.proofs.Keeping.{ends_keeping}
 use Rattle.cli.specs.Incoming.{coming}
 use Rattle.cli.specs.Lines.{ReadsPart, StopsPart}
 use Rattle.cli.specs.Published.{Serves}
@@ -110,7 +109,7 @@ returns-in-Ok-2-clause-ends g c =
     (subst (λ (l : List (List ℕ)). IsFirstRefusal catalog (trees_in l) None) lines unrefused) later
     (g.W.Writer.contents c.publish.new.writer) c.publish.result
     (subst (λ (checked : CheckedOf). Serves c.args.feed checked left later g.I.Reader.may_fail old (g.W.Writer.contents c.publish.new.writer)
-    c.publish.result) (ap checked_view c.in_ok-shared-in-Ok-2.ensures.ok ∙ kept) c.publish.ensures.serves)
+    c.publish.result) (ap checked_view c.in_ok-shared-in-Ok-2.ensures.ok ∙ kept) c.publish.ensures)
 
 pub returns-in-Ok-2-clause-failed : goal.returns-in-Ok-2-clause-failed
 returns-in-Ok-2-clause-failed g c =
@@ -175,8 +174,3 @@ returns-clause-ends g c =
 
 pub returns-clause-failed : goal.returns-clause-failed
 returns-clause-failed g c = inr c.write_refused.ensures.failed
-
-pub returns-clause-reported : goal.returns-clause-reported
-returns-clause-reported g c =
-    ends_keeping (g.W.Writer.has_failed c.args.writer.now) (g.W.Writer.has_failed c.write_refused.new.writer)
-    c.write_refused.result c.write_refused.ensures.failed

@@ -4,7 +4,6 @@ use Rattle.std.specs.Option.{unwrap_or}
 use Rattle.publisher_desk.specs.Seats.{SeatOf, empty_seat}
 use Rattle.senders.specs.Results.{ServedOf}
 use Rattle.commands.specs.declared.failure.Failure.TheVariants as f
-use Rattle.cli.proofs.Keeping.{later_told, later_untouched, returned_keeping}
 use Rattle.cli.proofs.LastLines.{all_served}
 use Rattle.cli.proofs.Telling.{stopped_returned, tells, unheard_returned}
 use Rattle.cli.specs.Connections.{IsFilled}
@@ -15,26 +14,26 @@ use Rattle.cli.specs.declared.connections.ConnectionPlace.{ConnectionPlace}
 use Rattle.cli.specs.declared.connections.ConnectionPlace.TheVariants.{Ended}
 use Rattle.cli.proofs.serve.publish.Goals as goal
 
-pub returns-in_err-listener-clause-writes : goal.returns-in_err-listener-clause-writes
-returns-in_err-listener-clause-writes g c =
+pub returns-in_err-listener : goal.returns-in_err-listener
+returns-in_err-listener g c =
     unheard_returned (service_of c.args.service g.P.Publishing.checked (map list_view c.args.lists.items)) (g.W.Writer.contents c.args.writer.now)
     (g.W.Writer.contents c.listen.new.writer) c.in_err-listener.field-0.0 c.from_residual-in_err-listener.result
     c.in_err-listener.ensures.stopped c.from_residual-in_err-listener.ensures.1
 
-pub returns-in_err-served-clause-writes : goal.returns-in_err-served-clause-writes
-returns-in_err-served-clause-writes g c =
+pub returns-in_err-served : goal.returns-in_err-served
+returns-in_err-served g c =
     stopped_returned (service_of c.args.service g.P.Publishing.checked (map list_view c.args.lists.items)) (g.W.Writer.contents c.args.writer.now)
     (g.W.Writer.contents c.listen.new.writer) c.in_err-served.field-0.0 c.from_residual-in_err-served.result
     c.in_ok-listener.ensures.written c.in_err-served.ensures.stopped c.from_residual-in_err-served.ensures.1
 
-pub returns-in_err-committed-clause-writes : goal.returns-in_err-committed-clause-writes
-returns-in_err-committed-clause-writes g c =
+pub returns-in_err-committed : goal.returns-in_err-committed
+returns-in_err-committed g c =
     stopped_returned (service_of c.args.service g.P.Publishing.checked (map list_view c.args.lists.items)) (g.W.Writer.contents c.args.writer.now)
     (g.W.Writer.contents c.listen.new.writer) f.OutOfMemory c.from_residual-in_err-committed.result
     c.in_ok-listener.ensures.written tt c.from_residual-in_err-committed.ensures.1
 
-pub returns-clause-writes : goal.returns-clause-writes
-returns-clause-writes g c =
+pub returns : goal.returns
+returns g c =
     let service : ServiceOf = service_of c.args.service g.P.Publishing.checked (map list_view c.args.lists.items) in
     let checked = g.P.Publishing.checked in
     let lists = map list_view c.args.lists.items in
@@ -58,28 +57,4 @@ returns-clause-writes g c =
     tells service (g.W.Writer.contents c.args.writer.now) (g.W.Writer.contents c.listen.new.writer)
     (g.W.Writer.contents c.close_and_tell.new.writer) c.close_and_tell.result
     c.in_ok-listener.ensures.written
-    (c.close_and_tell.ensures.closes service (record { checked_is = refl; limit_is = c.requires.limit }) over)
-
--- ---- whether the writer has failed
-
-pub returns-in_err-listener-clause-reported : goal.returns-in_err-listener-clause-reported
-returns-in_err-listener-clause-reported g c =
-    returned_keeping c.in_err-listener.field-0.0 (g.W.Writer.has_failed c.args.writer.now)
-    (g.W.Writer.has_failed c.listen.new.writer) c.from_residual-in_err-listener.result
-    c.in_err-listener.ensures.reported c.from_residual-in_err-listener.ensures.1
-
-pub returns-in_err-served-clause-reported : goal.returns-in_err-served-clause-reported
-returns-in_err-served-clause-reported g c =
-    later_untouched (g.W.Writer.has_failed c.args.writer.now) (g.W.Writer.has_failed c.listen.new.writer)
-    c.from_residual-in_err-served.result c.in_ok-listener.ensures.reported
-
-pub returns-in_err-committed-clause-reported : goal.returns-in_err-committed-clause-reported
-returns-in_err-committed-clause-reported g c =
-    later_untouched (g.W.Writer.has_failed c.args.writer.now) (g.W.Writer.has_failed c.listen.new.writer)
-    c.from_residual-in_err-committed.result c.in_ok-listener.ensures.reported
-
-pub returns-clause-reported : goal.returns-clause-reported
-returns-clause-reported g c =
-    later_told (g.W.Writer.has_failed c.args.writer.now) (g.W.Writer.has_failed c.listen.new.writer)
-    (g.W.Writer.has_failed c.close_and_tell.new.writer) c.close_and_tell.result c.in_ok-listener.ensures.reported
-    c.close_and_tell.ensures.failed
+    (c.close_and_tell.ensures service (record { checked_is = refl; limit_is = c.requires.limit }) over)

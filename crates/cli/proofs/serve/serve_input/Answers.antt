@@ -12,7 +12,6 @@ use Rattle.commands.specs.Verdicts.{IsFirstRefusal, checked_by}
 use Rattle.commands.specs.Refusals.{refused_line}
 use Rattle.commands.specs.Output.{StopsText, ended}
 use Rattle.commands.specs.Parts.{CutTwice, lines_of, three_parts}
-use Rattle.cli.proofs.Keeping.{ends_keeping}
 use Rattle.cli.proofs.Serving.{catalog_returned, script_returned, served, sharding_refused}
 use Rattle.cli.specs.Scripts.{list_view}
 use Rattle.cli.specs.Telling.{WritesServeLines, service_of}
@@ -38,7 +37,7 @@ returns-in-Ok-clause-ends g c =
     (subst (λ (lines : List (List ℕ)). IsFirstRefusal catalog (trees_in lines) None) same unrefused)
     (subst (λ (checked : CheckedOf).
     WritesServeLines (service_of c.args.service checked lists) old new c.publish.result) kept
-    c.publish.ensures.writes)
+    c.publish.ensures)
 
 pub returns-in-Ok-clause-failed : goal.returns-in-Ok-clause-failed
 returns-in-Ok-clause-failed g c =
@@ -112,8 +111,3 @@ returns-in_err-catalog-in-Err-clause-ends g c =
     catalog_returned c.args.service c.args.input.now cut parts (g.W.Writer.contents c.args.writer.now)
     c.in_err-catalog-in-Err.field-0.0 c.in_err-catalog-in-Err.ensures.catalog
     c.from_residual-in_err-catalog-in-Err.result c.from_residual-in_err-catalog-in-Err.ensures.1
-
-pub returns-clause-reported : goal.returns-clause-reported
-returns-clause-reported g c =
-    ends_keeping (g.W.Writer.has_failed c.args.writer.now) (g.W.Writer.has_failed c.write_refused.new.writer)
-    c.write_refused.result c.write_refused.ensures.failed

@@ -9,8 +9,8 @@ use Rattle.cli.specs.Published.{Closed, Differs, IsLastLine}
 use Rattle.cli.specs.Telling.{closed_line}
 use Rattle.cli.proofs.publish.closing.close_session.Goals as goal
 
-pub returns-in-Ok-clause-closes : goal.returns-in-Ok-clause-closes
-returns-in-Ok-clause-closes g c =
+pub returns-in-Ok : goal.returns-in-Ok
+returns-in-Ok g c =
     let checked = g.P.Publishing.checked in
     let limit = g.P.Publishing.limit in
     let served = c.args.served.items in
@@ -21,13 +21,13 @@ returns-in-Ok-clause-closes g c =
     subst (λ (s : List SeatOf). IsClosed checked limit closing s served book) seats c.in-Ok.ensures.ok in
     let commits : c.log_len.result ≡ length (book_log book) = search rules in
     let many : c.len.result ≡ length served = search rules in
-    c.tell_closed.ensures.closes checked limit c.args.seat
+    c.tell_closed.ensures checked limit c.args.seat
     (subst (λ (n : ℕ). IsLastLine checked limit c.args.seat (closed_line n c.len.result) Done) (sym commits)
     (subst (λ (m : ℕ). IsLastLine checked limit c.args.seat (closed_line (length (book_log book)) m) Done) (sym many)
     (Closed served closing book c.requires.served is)))
 
-pub returns-clause-closes : goal.returns-clause-closes
-returns-clause-closes g c =
+pub returns : goal.returns
+returns g c =
     let checked = g.P.Publishing.checked in
     let limit = g.P.Publishing.limit in
     let served = c.args.served.items in
@@ -40,5 +40,5 @@ returns-clause-closes g c =
     c.requires.rest
     (subst (λ (s : List SeatOf). RefusedClose checked limit g.P.Ledger.parts c.args.rest closing s served error) seats
     c.in-Err.ensures.refused)) in
-    c.tell_error.ensures.closes checked limit c.args.seat
+    c.tell_error.ensures checked limit c.args.seat
     (λ name named. Differs served closing error name c.requires.served refused named)

@@ -6,12 +6,12 @@ use Rattle.cli.proofs.Published.{closes}
 use Rattle.cli.specs.Telling.{WritesLine, name_of}
 use Rattle.cli.proofs.publish.closing.tell_error.Goals as goal
 
-pub returns-clause-closes : goal.returns-clause-closes
-returns-clause-closes g c checked limit seat last =
+pub returns : goal.returns
+returns g c checked limit seat last =
     let old = g.W.Writer.contents c.args.writer.now in
     let new = g.W.Writer.contents c.say.new.writer in
     let name = c.in_ok-name.name.now in
     let named : name_of c.args.error ≡ Some name = search rules in
     let is : string_bytes c.in_ok-line.line ≡ codes "close " ++ name = search rules in
     closes checked limit seat (codes "close " ++ name) Refused old new c.say.result (last name named)
-    (subst (λ (text : List ℕ). WritesLine text Refused old new c.say.result) is c.say.ensures.writes)
+    (subst (λ (text : List ℕ). WritesLine text Refused old new c.say.result) is c.say.ensures)

@@ -1,4 +1,3 @@
-use Rattle.cli.proofs.Keeping.{returned_telling}
 use Rattle.cli.proofs.Published.{stopped_before}
 use Rattle.cli.proofs.publish.door.open_doors.Goals as goal
 
@@ -11,9 +10,3 @@ pub returns-in_err-note_ports-clause-stopped : goal.returns-in_err-note_ports-cl
 returns-in_err-note_ports-clause-stopped g c =
     stopped_before c.args.feed (g.W.Writer.contents c.args.writer.now) c.in_err-note_ports.field-0.0
     c.from_residual-in_err-note_ports.result c.in_err-note_ports.ensures c.from_residual-in_err-note_ports.ensures.1
-
-pub returns-in_err-say_ports-clause-reported : goal.returns-in_err-say_ports-clause-reported
-returns-in_err-say_ports-clause-reported g c =
-    returned_telling c.in_err-say_ports.field-0.0 (g.W.Writer.has_failed c.args.writer.now)
-    (g.W.Writer.has_failed c.say_ports.new.writer) c.from_residual-in_err-say_ports.result
-    c.in_err-say_ports.ensures.failed c.from_residual-in_err-say_ports.ensures.1
