@@ -13,7 +13,7 @@ from typing import IO
 
 # The number of /dev/full.
 FULL = os.makedev(1, 7)
-# Each run takes about a second, but a machine may be slowed down a hundred times for a while.
+# The time limit of a run in seconds. It takes about one, but a machine may be a hundred times slower for a while.
 MOST_SECONDS = 900
 
 
@@ -37,15 +37,15 @@ def full_device() -> Iterator[int | None]:
 
 
 def status_within(kilobytes: int, command: Sequence[str | pathlib.Path], environment: dict[str, str]) -> int:
-    """Returns the status of a command that may have so much memory. A run that does not end is shown, and the command
-    is run once more: what is tested is the status, and Python itself may come to a stand without memory."""
+    """Returns the status of a command that may have so much memory. If it does not end, this prints where it hangs, and
+    runs it once more: the status is what is tested, and Python itself may hang if memory is refused."""
     try:
-        return ended_within(kilobytes, command, environment)
+        return status_once(kilobytes, command, environment)
     except subprocess.TimeoutExpired:
-        return ended_within(kilobytes, command, environment)
+        return status_once(kilobytes, command, environment)
 
 
-def ended_within(kilobytes: int, command: Sequence[str | pathlib.Path], environment: dict[str, str]) -> int:
+def status_once(kilobytes: int, command: Sequence[str | pathlib.Path], environment: dict[str, str]) -> int:
     """Runs a command with so much memory, and returns its status. Prints where Python was if it does not end."""
     most = kilobytes * 1024
     with tempfile.TemporaryFile() as errors:

@@ -67,7 +67,7 @@ def ran(words: Sequence[str], output: int | None, first: Callable[[], None] | No
 
 
 def check_memory(tally: Tally) -> None:
-    """Checks that judge answers or says that memory is refused, at each limit at which each Python starts."""
+    """Checks that judge answers or says that memory is refused, at each limit at which its Pythons start."""
     found, variables = set(), environment() | {"PGSHARD": PGSHARD}
     for limit in LIMITS:
         for word, refused in ("--all", NO_MEMORY), ("--nagios", UNKNOWN):
